@@ -1,0 +1,83 @@
+-- The laws of `first`: a refusal is given exactly when its condition holds and no earlier one does.
+use Prim.Native.Nat.{ℕ}
+use mathlib.Core.Path.{_≡_, refl, sym, _∙_, ap, subst}
+use mathlib.Core.Logic.{_↔_}
+use mathlib.Core.Bool.{Bool, true, false, cond, not, _&&_, true≢false, false≢true}
+use mathlib.Core.List.{List, [], _∷_, _++_}
+use native.Mathlib.Omega.{arith}
+use borrow.Author.Tests.{eq-eqb, eqb-false}
+use lib.Dec.{eqb, T}
+use Rattle.answers.specs.declared.Answer.{Answer}
+use Rattle.answers.specs.Answers.{Rule, first}
+
+-- none of the conditions holds
+abbrev pub NoneHolds : List Rule → Type 0
+NoneHolds [] = Unit {0}
+NoneHolds (r ∷ rs) = (r .holds ≡ false) × NoneHolds rs
+
+-- no refusal of the list has the number
+abbrev pub lacks : ℕ → List Rule → Bool
+lacks n [] = true
+lacks n (r ∷ rs) = not (eqb (r .refused .number) n) && lacks n rs
+
+pub first-none : (rs : List Rule) (d : Answer) → NoneHolds rs → first rs d ≡ d
+first-none [] d h = refl
+first-none (r ∷ rs) d h = rw (h .0) (first-none rs d (h .1))
+
+pub first-given : (earlier : List Rule) (r : Rule) (later : List Rule) (d : Answer)
+    → NoneHolds earlier → r .holds ≡ true → first (earlier ++ r ∷ later) d ≡ r .refused
+first-given [] r later d h e = rw e
+first-given (s ∷ earlier) r later d h e = rw (h .0) (first-given earlier r later d (h .1) e)
+
+-- a number that no refusal of a list has is not answered from it
+head-lacks : (a b : Bool) → T (a && b) → T a × T b
+head-lacks true b t = (tt, t)
+head-lacks false b t = absurd t
+
+not-number : (m n : ℕ) → T (not (eqb m n)) → m ≡ n → ⊥
+not-number m n t e = subst T (ap not (eq-eqb m n e)) t
+
+pub lacked : (n : ℕ) (rs : List Rule) (d : Answer) → T (lacks n rs) → (first rs d) .number ≡ n → NoneHolds rs × (d .number ≡ n)
+lacked n [] d t e = (tt, e)
+lacked n (r ∷ rs) d t e = go (r .holds) refl (λ x. lacked n rs d (parts .1) x)
+  where
+    parts : T (not (eqb (r .refused .number) n)) × T (lacks n rs)
+    parts = head-lacks (not (eqb (r .refused .number) n)) (lacks n rs) t
+
+    go : (b : Bool) → r .holds ≡ b → ((first rs d) .number ≡ n → NoneHolds rs × (d .number ≡ n))
+        → NoneHolds (r ∷ rs) × (d .number ≡ n)
+    go true h later = absurd (not-number (r .refused .number) n (parts .0) (sym (ap (λ (b : Bool). (cond b (r .refused) (first rs d)) .number) h) ∙ e))
+    go false h later =
+        let rest = later (sym (ap (λ (b : Bool). (cond b (r .refused) (first rs d)) .number) h) ∙ e) in
+        ((h, rest .0), rest .1)
+
+-- a number that one refusal alone has is answered exactly when its condition holds and none before it does
+pub given-exactly : (n : ℕ) (earlier : List Rule) (r : Rule) (later : List Rule) (d : Answer)
+    → r .refused .number ≡ n → T (lacks n earlier) → T (lacks n later) → T (not (eqb (d .number) n))
+    → ((first (earlier ++ r ∷ later) d) .number ≡ n) ↔ (NoneHolds earlier × (r .holds ≡ true))
+given-exactly n earlier r later d e before after last = (back earlier before, λ h. ap (λ (a : Answer). a .number) (first-given earlier r later d (h .0) (h .1)) ∙ e)
+  where
+    here : (b : Bool) → r .holds ≡ b → (first (r ∷ later) d) .number ≡ n → b ≡ true
+    here true h x = refl
+    here false h x = absurd (not-number (d .number) n last (lacked n later d after (sym (ap (λ (b : Bool). (cond b (r .refused) (first later d)) .number) h) ∙ x) .1))
+
+    back : (rs : List Rule) → T (lacks n rs) → (first (rs ++ r ∷ later) d) .number ≡ n → NoneHolds rs × (r .holds ≡ true)
+    back [] t x = (tt, here (r .holds) refl x)
+    back (s ∷ rs) t x = at (s .holds) refl (λ y. back rs (parts .1) y)
+      where
+        parts : T (not (eqb (s .refused .number) n)) × T (lacks n rs)
+        parts = head-lacks (not (eqb (s .refused .number) n)) (lacks n rs) t
+
+        rest : Answer
+        rest = first (rs ++ r ∷ later) d
+
+        at : (b : Bool) → s .holds ≡ b → (rest .number ≡ n → NoneHolds rs × (r .holds ≡ true)) → NoneHolds (s ∷ rs) × (r .holds ≡ true)
+        at true h further =
+            absurd (not-number (s .refused .number) n (parts .0) (sym (ap (λ (b : Bool). (cond b (s .refused) rest) .number) h) ∙ x))
+        at false h further =
+            let more = further (sym (ap (λ (b : Bool). (cond b (s .refused) rest) .number) h) ∙ x) in
+            ((h, more .0), more .1)
+
+-- a call is done exactly when no condition holds
+pub done-exactly : (n : ℕ) (rs : List Rule) (d : Answer) → d .number ≡ n → T (lacks n rs) → ((first rs d) .number ≡ n) ↔ NoneHolds rs
+done-exactly n rs d e t = (λ x. lacked n rs d t x .0, λ h. ap (λ (a : Answer). a .number) (first-none rs d h) ∙ e)

@@ -1,0 +1,3 @@
+pub mod Lowest
+pub mod Ranges
+pub mod First

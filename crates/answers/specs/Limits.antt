@@ -1,0 +1,49 @@
+-- The limits of the range table, each named once, and the test that a number keeps to one.
+use Prim.Native.Nat.{ℕ, _≤_}
+use mathlib.Core.Bool.{Bool, _||_}
+use lib.Dec.{ltb}
+
+-- frame M, in slots: 1 to this
+abbrev pub maxFrame : ℕ
+maxFrame = 2000
+
+-- ports N: 1 to this
+abbrev pub maxPorts : ℕ
+maxPorts = 32
+
+-- flows K: 0 to this
+abbrev pub maxFlows : ℕ
+maxFlows = 255
+
+-- cells waiting per flow: 0 to this
+abbrev pub maxWaiting : ℕ
+maxWaiting = 4000
+
+-- links h between switches: 0 to this
+abbrev pub maxLinks : ℕ
+maxLinks = 255
+
+-- deadline H, in slots: 0 to this
+abbrev pub maxDeadline : ℕ
+maxDeadline = 1000000
+
+-- period P, in slots: up to this
+abbrev pub maxPeriod : ℕ
+maxPeriod = 1000000
+
+-- message bits: 1 to this
+abbrev pub maxBits : ℕ
+maxBits = 10000000
+
+-- plan text, in bytes: up to this
+abbrev pub maxText : ℕ
+maxText = 8192
+
+-- x is not one of low, low + 1, .. high
+abbrev pub outside : ℕ → ℕ → ℕ → Bool
+outside low high x = ltb x low || ltb high x
+
+-- x is one of low, low + 1, .. high
+pub record Within (low high x : ℕ) : Type 0 where
+  pub at-least : low ≤ x
+  pub at-most : x ≤ high

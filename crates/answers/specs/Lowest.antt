@@ -1,0 +1,13 @@
+-- The lowest number at which a test holds: every detail that says "lowest such" is this one definition.
+use Prim.Native.Nat.{ℕ, zero, suc, _+_}
+use mathlib.Core.Bool.{Bool, cond}
+use lib.Dec.{ltb}
+
+-- the lowest of from, from + 1, .. (count of them) at which the test holds; where it holds at none of them, from + count
+unfoldable pub lowest : ℕ → ℕ → (ℕ → Bool) → ℕ
+lowest from zero test = from
+lowest from (suc count) test = cond (test from) from (lowest (suc from) count test)
+
+-- the test holds at one of them
+abbrev pub holdsSomewhere : ℕ → ℕ → (ℕ → Bool) → Bool
+holdsSomewhere from count test = ltb (lowest from count test) (from + count)

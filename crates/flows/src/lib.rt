@@ -1,0 +1,1 @@
+// The flow list: three 16-bit numbers a flow.
