@@ -1,3 +1,4 @@
 pub mod Lowest
 pub mod Ranges
 pub mod First
+pub mod Orders

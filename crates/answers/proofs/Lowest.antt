@@ -86,3 +86,23 @@ lowest-agree from zero f g h = refl
 lowest-agree from (suc count) f g h =
     ap (λ (b : Bool). cond b from (lowest (suc from) count f)) (h from (omega arith) (omega arith))
     ∙ ap (λ (n : ℕ). cond (g from) from n) (lowest-agree (suc from) count f g (λ k l u. h k (omega arith) (omega arith)))
+
+-- a search that has passed from, from + 1, .. below k without finding the test to hold
+pub record Searched (from count : ℕ) (test : ℕ → Bool) (k : ℕ) : Type 0 where
+  pub low : from ≤ k
+  pub high : k ≤ from + count
+  pub none-lower : Nowhere from k test
+
+pub search-start : (from count : ℕ) (test : ℕ → Bool) → Searched from count test from
+search-start from count test = record { low = omega arith; high = omega arith; none-lower = λ k l u. absurd (omega arith) }
+
+pub search-more : {from count : ℕ} {test : ℕ → Bool} {k : ℕ} → Searched from count test k → k < from + count → test k ≡ false → Searched from count test (k + 1)
+search-more {from} {count} {test} {k} s u e =
+    record { low = omega arith; high = omega arith; none-lower = λ j l w. nowhere-more from k test (s .none-lower) e j l (omega arith) }
+
+pub search-hit : {from count : ℕ} {test : ℕ → Bool} {k : ℕ} → Searched from count test k → k < from + count → test k ≡ true → k ≡ lowest from count test
+search-hit {from} {count} {test} {k} s u e = sym (lowest-is from count test k (s .low) u e (s .none-lower))
+
+pub search-end : {from count : ℕ} {test : ℕ → Bool} {k : ℕ} → Searched from count test k → from + count ≤ k → k ≡ lowest from count test
+search-end {from} {count} {test} {k} s u =
+    omega (arith, lowest-none from count test (λ j l w. s .none-lower j l (omega arith)))

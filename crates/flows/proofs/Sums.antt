@@ -4,7 +4,7 @@ use mathlib.Core.Path.{_≡_, refl, sym, _∙_, ap}
 use mathlib.Core.Bool.{Bool, true, false}
 use native.Mathlib.Omega.{arith}
 use native.Mathlib.Decide.{ℕ-discrete, decLt}
-use native.Mathlib.Nat.{zero-mul, suc-mul, add-zero, add-suc}
+use native.Mathlib.Nat.{le-antisymm, zero-mul, suc-mul, add-zero, add-suc}
 use native.Mathlib.Numerals.{add-one}
 use Rattle.flows.specs.Sums.{sum, one}
 
@@ -71,6 +71,16 @@ term-le (suc n) f k l = go (ℕ-discrete k n) (λ d. term-le n f k d)
   where
     go : Dec (k ≡ n) → (k < n → f k ≤ sum n f) → f k ≤ sum n f + f n
     go (yes e) later = omega (arith, ap f e)
+    go (no d) later = omega (arith, later (omega arith))
+
+-- the first terms' sum is at most the whole sum
+pub sum-prefix : (a n : ℕ) (f : ℕ → ℕ) → a ≤ n → sum a f ≤ sum n f
+unfolding sum
+sum-prefix a zero f l = omega (arith, ap (λ (k : ℕ). sum k f) (le-antisymm l (omega arith)))
+sum-prefix a (suc n) f l = go (ℕ-discrete a (suc n)) (λ u. sum-prefix a n f u)
+  where
+    go : Dec (a ≡ suc n) → (a ≤ n → sum a f ≤ sum n f) → sum a f ≤ sum n f + f n
+    go (yes e) later = omega (arith, ap (λ (k : ℕ). sum k f) e, sum-step n f)
     go (no d) later = omega (arith, later (omega arith))
 
 -- one changed term moves the sum by the difference

@@ -50,7 +50,11 @@ misshapen L = not (eqb (length L % perFlow) 0) || ltb (perFlow * maxFlows) (leng
 
 -- refusal 4: one of flow k's numbers is out of range
 abbrev pub flowOutOfRange : ℕ → ℕ → List ℕ → ℕ → Bool
-flowOutOfRange M N L k = outside 1 N (inputOf L k) || outputsOutOfRange N L k || outside 1 M (cellsOf L k)
+flowOutOfRange M N L k = outside 1 N (inputOf L k) || (outputsOutOfRange N L k || outside 1 M (cellsOf L k))
+
+-- flow k's cells as they count at a port, taken as an input or as an output: all of them where they come from it or go to it, else none
+abbrev pub cellsAt : Bool → List ℕ → ℕ → ℕ → ℕ
+cellsAt asInput L port k = cond (cond asInput (comesFrom L k port) (goesTo L k port)) (cellsOf L k) 0
 
 -- the cells that an input is asked for: those of its flows, each flow counted by itself
 unfoldable pub inputLoad : List ℕ → ℕ → ℕ
@@ -66,6 +70,10 @@ inputOverloaded M L i = ltb M (inputLoad L i)
 
 abbrev pub outputOverloaded : ℕ → List ℕ → ℕ → Bool
 outputOverloaded M L j = ltb M (outputLoad L j)
+
+-- the port, taken as an input or as an output, is asked for more than M cells
+abbrev pub overloaded : Bool → ℕ → List ℕ → ℕ → Bool
+overloaded asInput M L port = cond asInput (inputOverloaded M L port) (outputOverloaded M L port)
 
 -- the list is of threes, not too many, and each flow's numbers are in range
 pub record GoodList (M N : ℕ) (L : List ℕ) : Type 0 where
