@@ -1,14 +1,16 @@
 -- The laws of `first`: a refusal is given exactly when its condition holds and no earlier one does.
-use Prim.Native.Nat.{ℕ}
+use Prim.Native.Nat.{ℕ, _+_, _≤_, _<_}
 use mathlib.Core.Path.{_≡_, refl, sym, _∙_, ap, subst}
 use mathlib.Core.Logic.{_↔_}
 use mathlib.Core.Bool.{Bool, true, false, cond, not, _&&_, true≢false, false≢true}
 use mathlib.Core.List.{List, [], _∷_, _++_}
 use native.Mathlib.Omega.{arith}
-use borrow.Author.Tests.{eq-eqb, eqb-false}
+use borrow.Author.Tests.{eq-eqb, lt-ltb, le-ltb}
+use lib.IntN.{pos}
 use lib.Dec.{eqb, T}
 use Rattle.answers.specs.declared.Answer.{Answer}
-use Rattle.answers.specs.Answers.{Rule, first}
+use Rattle.answers.specs.Answers.{Rule, answer, first}
+use Rattle.answers.specs.Lowest.{lowest, holdsSomewhere}
 
 -- none of the conditions holds
 abbrev pub NoneHolds : List Rule → Type 0
@@ -81,3 +83,13 @@ given-exactly n earlier r later d e before after last = (back earlier before, λ
 -- a call is done exactly when no condition holds
 pub done-exactly : (n : ℕ) (rs : List Rule) (d : Answer) → d .number ≡ n → T (lacks n rs) → ((first rs d) .number ≡ n) ↔ NoneHolds rs
 done-exactly n rs d e t = (λ x. lacked n rs d t x .0, λ h. ap (λ (a : Answer). a .number) (first-none rs d h) ∙ e)
+
+-- a search that found k tells whether a refusal that names the lowest is given, and which number it names
+module _ (from count : ℕ) (test : ℕ → Bool) (k : ℕ) (e : k ≡ lowest from count test) where
+  pub lowest-named : (n : ℕ) (rest : Answer) → k < from + count → answer n (pos k) ≡ cond (holdsSomewhere from count test) (answer n (pos (lowest from count test))) rest
+  lowest-named n rest u =
+      ap (λ (x : ℕ). answer n (pos x)) e
+      ∙ sym (ap (λ (b : Bool). cond b (answer n (pos (lowest from count test))) rest) (lt-ltb (lowest from count test) (from + count) (omega arith)))
+
+  pub lowest-passed : (x rest : Answer) → from + count ≤ k → rest ≡ cond (holdsSomewhere from count test) x rest
+  lowest-passed x rest u = sym (ap (λ (b : Bool). cond b x rest) (le-ltb (lowest from count test) (from + count) (omega arith)))

@@ -39,6 +39,10 @@ maxBits = 10000000
 abbrev pub maxText : ℕ
 maxText = 8192
 
+-- a detail that is no signed value is below this, so that it fits 32 bits with a sign
+abbrev pub maxDetail : ℕ
+maxDetail = 2147483648
+
 -- x is not one of low, low + 1, .. high
 abbrev pub outside : ℕ → ℕ → ℕ → Bool
 outside low high x = ltb x low || ltb high x

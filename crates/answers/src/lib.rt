@@ -1,7 +1,9 @@
 // The fixed list: what every call answers with, and the limits, each under one name.
 ghost use mathlib.Core.Path.{_≡_};
+ghost use Prim.Native.Nat.{_<_};
+ghost use lib.IntN.{pos};
 ghost use Rattle.answers.specs.Answers.{refusal, answer};
-ghost use Rattle.answers.specs.Limits.{outside};
+ghost use Rattle.answers.specs.Limits.{maxDetail, outside};
 
 // A number of the list and its detail; the detail is 0 where the list names none.
 #[repr(C)]
@@ -83,11 +85,22 @@ pub fn refusal(number: u32) -> Answer
     Answer { number, detail: 0 }
 }
 
-// An answer with its detail.
+// An answer with a signed detail.
 pub fn detailed(number: u32, detail: i32) -> Answer
     ensures { λ r. ⌜ r ≡ answer number detail ⌝ }
 {
     Answer { number, detail }
+}
+
+// An answer that names a flow, a port, a place or a count.
+pub fn naming(number: u32, detail: usize) -> Answer
+    requires { ⌜ detail < maxDetail ⌝ }
+    ensures { λ r. ⌜ r ≡ answer number (pos detail) ⌝ }
+{
+    Answer {
+        number,
+        detail: detail as i32,
+    }
 }
 
 // Whether x is not one of low, low + 1, .. high.

@@ -2,10 +2,14 @@
 use Prim.Native.Nat.{ℕ, suc, _+_, _-_, _*_, _/_, _%_, _≤_}
 use mathlib.Core.Path.{_≡_}
 use mathlib.Core.Bool.{Bool, true, not, cond, _||_}
-use mathlib.Core.List.{List}
+use mathlib.Core.List.{List, [], _∷_}
+use lib.IntN.{pos}
 use lib.ListN.{length, getD}
 use lib.Dec.{eqb, ltb}
-use Rattle.answers.specs.Limits.{maxFlows, outside, Within}
+use Rattle.answers.specs.declared.Answer.{Answer}
+use Rattle.answers.specs.Numbers.{FRAME-OUT-OF-RANGE, PORTS-OUT-OF-RANGE, LIST-MISSHAPEN, FLOW-OUT-OF-RANGE}
+use Rattle.answers.specs.Limits.{maxFrame, maxPorts, maxFlows, outside, Within}
+use Rattle.answers.specs.Answers.{Rule, refusal, doneWith, _when_, namingLowest, first}
 use Rattle.flows.specs.Sums.{sum}
 
 -- how many numbers a flow takes in the list
@@ -87,3 +91,16 @@ pub record GoodList (M N : ℕ) (L : List ℕ) : Type 0 where
 pub record Fitting (M N : ℕ) (L : List ℕ) : Type 0 where
   pub inputs-fit : (i : ℕ) → Within 1 N i → inputLoad L i ≤ M
   pub outputs-fit : (j : ℕ) → Within 1 N j → outputLoad L j ≤ M
+
+-- the refusals of frame, ports and list, which every call that takes a list gives first, in this order
+abbrev pub listRules : ℕ → ℕ → List ℕ → List Rule
+listRules M N L =
+    (refusal FRAME-OUT-OF-RANGE when outside 1 maxFrame M)
+    ∷ (refusal PORTS-OUT-OF-RANGE when outside 1 maxPorts N)
+    ∷ (refusal LIST-MISSHAPEN when misshapen L)
+    ∷ namingLowest FLOW-OUT-OF-RANGE 1 (flowCount L) (flowOutOfRange M N L)
+    ∷ []
+
+-- the first of them, or done
+unfoldable pub listAnswer : ℕ → ℕ → List ℕ → Answer
+listAnswer M N L = first (listRules M N L) (doneWith (pos 0))

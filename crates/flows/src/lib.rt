@@ -1,11 +1,19 @@
 // The flow list: three 16-bit numbers a flow, input, output and cells per frame. Whoever reads a list reads it through these functions.
+use answers::Answer;
+use answers::DONE;
+use answers::FLOW_OUT_OF_RANGE;
+use answers::FRAME_OUT_OF_RANGE;
+use answers::LIST_MISSHAPEN;
 use answers::MAX_FLOWS;
+use answers::MAX_FRAME;
+use answers::MAX_PORTS;
+use answers::PORTS_OUT_OF_RANGE;
 ghost use mathlib.Core.Path.{_≡_};
 ghost use Prim.Native.Nat.{_+_, _-_, _*_, _<_, _≤_};
 ghost use lib.ListN.{getD};
 ghost use Rattle.answers.specs.Limits.{maxPorts};
 ghost use Rattle.answers.specs.Lowest.{lowest};
-ghost use Rattle.flows.specs.Flows.{perFlow, flowCount, inputOf, outputOf, cellsOf, comesFrom, goesTo, misshapen, flowOutOfRange, outputsOutOfRange, cellsAt, overloaded, inputOverloaded, outputOverloaded};
+ghost use Rattle.flows.specs.Flows.{perFlow, flowCount, inputOf, outputOf, cellsOf, comesFrom, goesTo, misshapen, flowOutOfRange, outputsOutOfRange, cellsAt, listAnswer, overloaded, inputOverloaded, outputOverloaded};
 
 pub const PER_FLOW: usize = 3;
 
@@ -111,6 +119,26 @@ pub fn first_out_of_range(frame: usize, ports: usize, list: &[u16]) -> usize
         flow += 1;
     }
     flow
+}
+
+// Refusals 1, 2, 3 and 4, which every call that takes a list gives first, or done.
+pub fn list_answer(frame: usize, ports: usize, list: &[u16]) -> Answer
+    ensures { λ r. ⌜ r ≡ listAnswer frame ports (now (list .entry)) ⌝ }
+{
+    if answers::outside(1, MAX_FRAME, frame) {
+        return answers::refusal(FRAME_OUT_OF_RANGE);
+    }
+    if answers::outside(1, MAX_PORTS, ports) {
+        return answers::refusal(PORTS_OUT_OF_RANGE);
+    }
+    if misshapen(list) {
+        return answers::refusal(LIST_MISSHAPEN);
+    }
+    let flow = first_out_of_range(frame, ports, list);
+    if flow <= flow_count(list) {
+        return answers::naming(FLOW_OUT_OF_RANGE, flow);
+    }
+    answers::refusal(DONE)
 }
 
 // A flow's cells as they count at a port, taken as an input or as an output.
