@@ -9,7 +9,8 @@ use borrow.Author.Tests.{eq-eqb, lt-ltb, le-ltb}
 use lib.IntN.{pos}
 use lib.Dec.{eqb, T}
 use Rattle.answers.specs.declared.Answer.{Answer}
-use Rattle.answers.specs.Answers.{Rule, answer, first}
+use Rattle.answers.specs.Answers.{Rule, answer, doneWith, first}
+use Rattle.answers.specs.Numbers.{DONE}
 use Rattle.answers.specs.Lowest.{lowest, holdsSomewhere}
 
 -- none of the conditions holds
@@ -93,3 +94,27 @@ module _ (from count : ℕ) (test : ℕ → Bool) (k : ℕ) (e : k ≡ lowest fr
 
   pub lowest-passed : (x rest : Answer) → from + count ≤ k → rest ≡ cond (holdsSomewhere from count test) x rest
   lowest-passed x rest u = sym (ap (λ (b : Bool). cond b x rest) (le-ltb (lowest from count test) (from + count) (omega arith)))
+
+-- a call whose order begins with that of another function asks that function first, and passes its refusal on or goes on with the rest
+first-on : (rs : List Rule) (more : List Rule) (d : Answer) → NoneHolds rs → first (rs ++ more) d ≡ first more d
+first-on [] more d h = refl
+first-on (r ∷ rs) more d h = rw (h .0) (first-on rs more d (h .1))
+
+first-off : (rs : List Rule) (more : List Rule) (d e : Answer) → ((first rs e) .number ≡ e .number → ⊥) → first (rs ++ more) d ≡ first rs e
+first-off [] more d e h = absurd (h refl)
+first-off (r ∷ rs) more d e h = go (r .holds) h (λ x. first-off rs more d e x)
+  where
+    go : (b : Bool) → ((cond b (r .refused) (first rs e)) .number ≡ e .number → ⊥) → (((first rs e) .number ≡ e .number → ⊥) → first (rs ++ more) d ≡ first rs e)
+        → cond b (r .refused) (first (rs ++ more) d) ≡ cond b (r .refused) (first rs e)
+    go true x later = refl
+    go false x later = later x
+
+module _ (rs more : List Rule) (d : Answer) (a : Answer) (e : a ≡ first rs (doneWith (pos 0))) where
+  pub refusal-passed-on : (a .number ≡ DONE → ⊥) → a ≡ first (rs ++ more) d
+  refusal-passed-on h = e ∙ sym (first-off rs more d (doneWith (pos 0)) (λ x. h (ap (λ (y : Answer). y .number) e ∙ x)))
+
+  pub goes-on : T (lacks DONE rs) → a .number ≡ DONE → first (rs ++ more) d ≡ first more d
+  goes-on t h = first-on rs more d (lacked DONE rs (doneWith (pos 0)) t (sym (ap (λ (y : Answer). y .number) e) ∙ h) .0)
+
+  pub none-of-them : T (lacks DONE rs) → a .number ≡ DONE → NoneHolds rs
+  none-of-them t h = lacked DONE rs (doneWith (pos 0)) t (sym (ap (λ (y : Answer). y .number) e) ∙ h) .0

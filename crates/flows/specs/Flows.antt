@@ -87,6 +87,12 @@ pub record GoodList (M N : ℕ) (L : List ℕ) : Type 0 where
   pub outputs : (k : ℕ) → IsFlow L k → Within 1 N (outputOf L k)
   pub cells : (k : ℕ) → IsFlow L k → Within 1 M (cellsOf L k)
 
+-- frame, ports and list are in range: none of refusals 1, 2, 3 and 4 is due
+pub record InRange (M N : ℕ) (L : List ℕ) : Type 0 where
+  pub frame-in-range : Within 1 maxFrame M
+  pub ports-in-range : Within 1 maxPorts N
+  pub good-list : GoodList M N L
+
 -- no input and no output is asked for more than M
 pub record Fitting (M N : ℕ) (L : List ℕ) : Type 0 where
   pub inputs-fit : (i : ℕ) → Within 1 N i → inputLoad L i ≤ M

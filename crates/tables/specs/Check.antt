@@ -1,16 +1,18 @@
 -- What the check answers: document 01's order 1, 2, 3, 4, 7, 8, 9, 10.
-use Prim.Native.Nat.{ℕ, suc, _+_, _*_, _/_}
+use Prim.Native.Nat.{ℕ, suc, _*_, _/_, _≤_, _<_}
+use mathlib.Core.Path.{_≡_}
 use mathlib.Core.Bool.{Bool, not, _&&_, _||_}
-use mathlib.Core.List.{List, [], _∷_}
+use mathlib.Core.List.{List, [], _∷_, _++_}
 use lib.ListN.{length, getD}
 use lib.IntN.{pos}
 use lib.Dec.{eqb, ltb}
 use Rattle.answers.specs.declared.Answer.{Answer}
-use Rattle.answers.specs.Numbers.{FRAME-OUT-OF-RANGE, PORTS-OUT-OF-RANGE, LIST-MISSHAPEN, FLOW-OUT-OF-RANGE, TABLE-TOO-SHORT, ENTRY-NOT-OF-ROW, INPUT-TWICE-IN-SLOT, COUNT-WRONG}
-use Rattle.answers.specs.Limits.{maxFrame, maxPorts, outside}
+use Rattle.answers.specs.Numbers.{TABLE-TOO-SHORT, ENTRY-NOT-OF-ROW, INPUT-TWICE-IN-SLOT, COUNT-WRONG}
+use Rattle.answers.specs.Limits.{maxFrame, maxPorts, outside, Within}
 use Rattle.answers.specs.Lowest.{holdsSomewhere}
 use Rattle.answers.specs.Answers.{Rule, refusal, doneWith, _when_, namingLowest, first}
-use Rattle.flows.specs.Flows.{flowCount, inputOf, cellsOf, goesTo, misshapen, flowOutOfRange}
+use Rattle.flows.specs.Sums.{sum, one}
+use Rattle.flows.specs.Flows.{flowCount, inputOf, cellsOf, goesTo, listRules}
 use Rattle.tables.specs.Accepted.{entry, times}
 
 -- e is not the number of a flow whose output is j
@@ -34,18 +36,39 @@ inputTwice M N L T s = holdsSomewhere 0 N (λ b. holdsSomewhere 0 b (λ a. share
 abbrev pub countWrong : ℕ → ℕ → List ℕ → List ℕ → ℕ → Bool
 countWrong M N L T k = not (eqb (times M N T k) (cellsOf L k))
 
--- the refusals of the check, in its order
-abbrev pub checkRules : ℕ → ℕ → List ℕ → List ℕ → List Rule
-checkRules M N L T =
-    (refusal FRAME-OUT-OF-RANGE when outside 1 maxFrame M)
-    ∷ (refusal PORTS-OUT-OF-RANGE when outside 1 maxPorts N)
-    ∷ (refusal LIST-MISSHAPEN when misshapen L)
-    ∷ namingLowest FLOW-OUT-OF-RANGE 1 (flowCount L) (flowOutOfRange M N L)
-    ∷ (refusal TABLE-TOO-SHORT when ltb (length T) (N * M))
-    ∷ namingLowest ENTRY-NOT-OF-ROW 0 (N * M) (notOfRow M L T)
+-- the refusals of the entries of a table that is long enough, in their order
+abbrev pub entryRules : ℕ → ℕ → List ℕ → List ℕ → List Rule
+entryRules M N L T =
+    namingLowest ENTRY-NOT-OF-ROW 0 (N * M) (notOfRow M L T)
     ∷ namingLowest INPUT-TWICE-IN-SLOT 0 M (inputTwice M N L T)
     ∷ namingLowest COUNT-WRONG 1 (flowCount L) (countWrong M N L T)
     ∷ []
 
+-- the first of them, or done
+unfoldable pub entriesAnswer : ℕ → ℕ → List ℕ → List ℕ → Answer
+entriesAnswer M N L T = first (entryRules M N L T) (doneWith (pos 0))
+
+-- the refusals of a table: its length, then its entries
+abbrev pub tableRules : ℕ → ℕ → List ℕ → List ℕ → List Rule
+tableRules M N L T = (refusal TABLE-TOO-SHORT when ltb (length T) (N * M)) ∷ entryRules M N L T
+
+-- the refusals of the check, in its order: first those that every call with a list gives
+abbrev pub checkRules : ℕ → ℕ → List ℕ → List ℕ → List Rule
+checkRules M N L T = listRules M N L ++ tableRules M N L T
+
 unfoldable pub checkAnswer : ℕ → ℕ → List ℕ → List ℕ → Answer
 checkAnswer M N L T = first (checkRules M N L T) (doneWith (pos 0))
+
+-- frame and ports are in range, and the table has a row for each port
+pub record Holds (M N : ℕ) (T : List ℕ) : Type 0 where
+  pub frame-in-range : Within 1 maxFrame M
+  pub ports-in-range : Within 1 maxPorts N
+  pub long-enough : N * M ≤ length T
+
+-- how many of the first places of a table hold number k
+unfoldable pub countIn : List ℕ → ℕ → ℕ → ℕ
+countIn T end k = sum end (λ p. one (eqb (getD T p 0) k))
+
+-- the counts of all numbers that a byte can hold
+abbrev pub Counted : List ℕ → ℕ → List ℕ → Type 0
+Counted T end counts = (k : ℕ) → k < 256 → getD counts k 0 ≡ countIn T end k

@@ -1,0 +1,5 @@
+pub mod Counts
+pub mod Places
+pub mod Entries
+pub mod Checked
+pub mod Rows
