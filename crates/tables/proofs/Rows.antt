@@ -43,7 +43,8 @@ module _ (M N : ℕ) (T : List ℕ) (j : ℕ) (a : Answer) (e : a ≡ rowAnswer 
 
     pub part-cut : take ((j - 1) * M + M - (j - 1) * M) (drop ((j - 1) * M) T) ≡ rowPart M N T j
     part-cut =
-        ap (λ (x : ℕ). take x (drop ((j - 1) * M) T)) (omega arith)
+        let long : (j - 1) * M + M - (j - 1) * M ≡ M = omega arith in
+        ap (λ (x : ℕ). take x (drop ((j - 1) * M) T)) long
         ∙ sym (ap (λ (b : Bool). cond b (take M (drop ((j - 1) * M) T)) []) row-there)
 
     pub part-start : (j - 1) * M ≡ rowStart M N (length T) j
