@@ -3,3 +3,4 @@ pub mod Places
 pub mod Entries
 pub mod Checked
 pub mod Rows
+pub mod Counting
