@@ -5,13 +5,15 @@ use mathlib.Core.Logic.{_↔_}
 use mathlib.Core.Bool.{Bool, true, false, cond, not, _&&_, true≢false, false≢true}
 use mathlib.Core.List.{List, [], _∷_, _++_}
 use native.Mathlib.Omega.{arith}
-use borrow.Author.Tests.{eq-eqb, lt-ltb, le-ltb}
+use borrow.Author.Tests.{eq-eqb, lt-ltb, le-ltb, ltb-true}
+use lib.Signed.{mag}
 use lib.IntN.{pos}
 use lib.Dec.{eqb, T}
 use Rattle.answers.specs.declared.Answer.{Answer}
-use Rattle.answers.specs.Answers.{Rule, answer, doneWith, first}
+use Rattle.answers.specs.Answers.{Rule, answer, doneWith, namingLowest, first}
 use Rattle.answers.specs.Numbers.{DONE}
-use Rattle.answers.specs.Lowest.{lowest, holdsSomewhere}
+use Rattle.answers.specs.Lowest.{lowest, holdsSomewhere, IsLowest}
+use Rattle.answers.proofs.Lowest.{lowest-is, lowest-found, somewhere-false, nowhere-test}
 
 -- none of the conditions holds
 abbrev pub NoneHolds : List Rule → Type 0
@@ -118,3 +120,60 @@ module _ (rs more : List Rule) (d : Answer) (a : Answer) (e : a ≡ first rs (do
 
   pub none-of-them : T (lacks DONE rs) → a .number ≡ DONE → NoneHolds rs
   none-of-them t h = lacked DONE rs (doneWith (pos 0)) t (sym (ap (λ (y : Answer). y .number) e) ∙ h) .0
+
+-- a refusal that names the lowest, by a test that says of each number of the range whether P is true of it
+module _
+    (n from count : ℕ) (test : ℕ → Bool) (P : ℕ → Type 0)
+    (says : (k : ℕ) → from ≤ k → k < from + count → test k ≡ true → P k)
+    (means : (k : ℕ) → from ≤ k → k < from + count → P k → test k ≡ true)
+  where
+    lowest-test : (k : ℕ) → IsLowest from count P k → lowest from count test ≡ k
+    lowest-test k l =
+        lowest-is from count test k (l .low) (l .high) (means k (l .low) (l .high) (l .there)) (λ j a u. below j (omega (arith, l .high)) a u (test j) refl)
+      where
+        below : (j : ℕ) → j < from + count → from ≤ j → j < k → (b : Bool) → test j ≡ b → b ≡ false
+        below j w a u true e = absurd (l .none-lower j a u (says j a w e))
+        below j w a u false e = refl
+
+    test-lowest : holdsSomewhere from count test ≡ true → IsLowest from count P (lowest from count test)
+    test-lowest e =
+        let f = lowest-found from count test in
+        let u : lowest from count test < from + count = ltb-true _ _ e in
+        record {
+          low = f .low;
+          high = u;
+          there = says _ (f .low) u (f .there u);
+          none-lower = λ j a l p. true≢false (sym (means j a (omega arith) p) ∙ f .none-lower j a l);
+        }
+
+    -- is given, naming k, exactly when no earlier condition holds and k is the lowest
+    pub named-exactly : (earlier later : List Rule) (d : Answer) (k : ℕ) → T (lacks n earlier) → T (lacks n later) → T (not (eqb (d .number) n))
+        → (first (earlier ++ namingLowest n from count test ∷ later) d ≡ answer n (pos k)) ↔ (NoneHolds earlier × IsLowest from count P k)
+    named-exactly earlier later d k before after last = (out, back)
+      where
+        rule : Rule
+        rule = namingLowest n from count test
+
+        out : first (earlier ++ rule ∷ later) d ≡ answer n (pos k) → NoneHolds earlier × IsLowest from count P k
+        out e =
+            let h = given-exactly n earlier rule later d refl before after last .0 (ap (λ (a : Answer). a .number) e) in
+            let same : lowest from count test ≡ k =
+            ap (λ (a : Answer). mag (a .detail)) (sym (first-given earlier rule later d (h .0) (h .1)) ∙ e) in
+            (h .0, subst (λ (x : ℕ). IsLowest from count P x) same (test-lowest (h .1)))
+
+        back : NoneHolds earlier × IsLowest from count P k → first (earlier ++ rule ∷ later) d ≡ answer n (pos k)
+        back h =
+            let same = lowest-test k (h .1) in
+            first-given earlier rule later d (h .0) (lt-ltb (lowest from count test) (from + count) (omega (arith, h .1 .high)))
+            ∙ ap (λ (x : ℕ). answer n (pos x)) same
+
+    -- is not due exactly when P is true of no number of the range
+    pub not-named : holdsSomewhere from count test ≡ false → (k : ℕ) → from ≤ k → k < from + count → P k → ⊥
+    not-named e k a u p = true≢false (sym (means k a u p) ∙ somewhere-false from count test e k a u)
+
+    pub none-named : ((k : ℕ) → from ≤ k → k < from + count → P k → ⊥) → holdsSomewhere from count test ≡ false
+    none-named h = nowhere-test from count test (λ k a u. off k a u (test k) refl)
+      where
+        off : (k : ℕ) → from ≤ k → k < from + count → (b : Bool) → test k ≡ b → b ≡ false
+        off k a u true e = absurd (h k a u (says k a u e))
+        off k a u false e = refl

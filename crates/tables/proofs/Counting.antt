@@ -40,11 +40,15 @@ one-flow K g zero (inr b) = absurd (omega (arith, b .0))
 one-flow K g (suc j) (inr b) =
     let l : j < K = omega (arith, b .1) in
     let there : cond (g (suc j)) (one (eqb (suc j) (suc j))) 0 ≡ one (g (suc j)) =
-          ap (λ (t : Bool). cond (g (suc j)) (one t) 0) (eq-eqb (suc j) (suc j) refl) ∙ pick-one (g (suc j)) in
-    omega (arith,
+    ap (λ (t : Bool). cond (g (suc j)) (one t) 0) (eq-eqb (suc j) (suc j) refl) ∙ pick-one (g (suc j)) in
+    omega (
+      arith,
       sum-change K (λ k. 0) (λ k. cond (g (suc k)) (one (eqb (suc j) (suc k))) 0) j l
-        (λ k u d. sym (pick-none (g (suc k)) (one (eqb (suc j) (suc k))) (ap one (ne-eqb (suc j) (suc k) (λ x. d (omega arith)))))),
-      sum-zero K (λ k. 0) (λ k u. refl), there, ap (λ (t : Bool). cond t 0 (one (g (suc j)))) (ne-eqb (suc j) 0 (λ x. omega arith)))
+          (λ k u d. sym (pick-none (g (suc k)) (one (eqb (suc j) (suc k))) (ap one (ne-eqb (suc j) (suc k) (λ x. d (omega arith)))))),
+      sum-zero K (λ k. 0) (λ k u. refl),
+      there,
+      ap (λ (t : Bool). cond t 0 (one (g (suc j)))) (ne-eqb (suc j) 0 (λ x. omega arith)),
+    )
 
 module _ (M N : ℕ) (L T : List ℕ) (acc : Accepted M N L T) where
   entry-range : (r s : ℕ) → r < N → s < M → (entry M T r s ≡ 0) ⊎ ((1 ≤ entry M T r s) × (entry M T r s ≤ flowCount L))
@@ -60,12 +64,12 @@ module _ (M N : ℕ) (L T : List ℕ) (acc : Accepted M N L T) where
   by-slots g =
       sum-agree K _ (λ k. sum N (λ r. sum M (λ s. at k r s)))
       (λ k l.
-        ap (λ (n : ℕ). cond (g (suc k)) n 0) (sym (acc .exact-counts (suc k) (record { at-least = omega arith; at-most = omega arith })))
-        ∙ pick-sum (g (suc k)) N (λ r. sum M (λ s. one (eqb (entry M T r s) (suc k))))
-        ∙ sum-agree N _ (λ r. sum M (λ s. at k r s)) (λ r u. pick-sum (g (suc k)) M (λ s. one (eqb (entry M T r s) (suc k)))))
+      ap (λ (n : ℕ). cond (g (suc k)) n 0) (sym (acc .exact-counts (suc k) (record { at-least = omega arith; at-most = omega arith })))
+      ∙ pick-sum (g (suc k)) N (λ r. sum M (λ s. one (eqb (entry M T r s) (suc k))))
+      ∙ sum-agree N _ (λ r. sum M (λ s. at k r s)) (λ r u. pick-sum (g (suc k)) M (λ s. one (eqb (entry M T r s) (suc k)))))
       ∙ sum-swap K N (λ k r. sum M (λ s. at k r s))
       ∙ sum-agree N _ (λ r. sum M (λ s. counted g (entry M T r s)))
-        (λ r u. sum-swap K M (λ k s. at k r s) ∙ sum-agree M _ (λ s. counted g (entry M T r s)) (λ s v. one-flow K g (entry M T r s) (entry-range r s u v)))
+      (λ r u. sum-swap K M (λ k s. at k r s) ∙ sum-agree M _ (λ s. counted g (entry M T r s)) (λ s v. one-flow K g (entry M T r s) (entry-range r s u v)))
       ∙ sum-swap N M (λ r s. counted g (entry M T r s))
     where
       K : ℕ
@@ -78,8 +82,11 @@ module _ (M N : ℕ) (L T : List ℕ) (acc : Accepted M N L T) where
       → ((a b : ℕ) → a < N → b < N → (entry M T a s ≡ 0 → ⊥) → (entry M T b s ≡ 0 → ⊥) → g (entry M T a s) ≡ true → g (entry M T b s) ≡ true → a ≡ b)
       → sum N (λ r. counted g (entry M T r s)) ≤ 1
   counted-once g s h =
-      omega (arith, sum-agree N (λ r. counted g (entry M T r s)) (λ r. one (test r)) (λ r l. is (eqb (entry M T r s) 0) (g (entry M T r s))),
-      count-once N test (λ a b u w x y. h a b u w (filled a x) (filled b y) (held a x) (held b y)))
+      omega (
+        arith,
+        sum-agree N (λ r. counted g (entry M T r s)) (λ r. one (test r)) (λ r l. is (eqb (entry M T r s) 0) (g (entry M T r s))),
+        count-once N test (λ a b u w x y. h a b u w (filled a x) (filled b y) (held a x) (held b y)),
+      )
     where
       test : ℕ → Bool
       test r = not (eqb (entry M T r s) 0) && g (entry M T r s)
@@ -124,9 +131,10 @@ module _ (M N : ℕ) (L T : List ℕ) (acc : Accepted M N L T) where
   pub accepted-fits : Fitting M N L
   unfolding inputLoad outputLoad
   accepted-fits =
-      record
-      { inputs-fit = λ i w. fits (λ k. comesFrom L k i) (λ s l. counted-once (λ k. comesFrom L k i) s (one-row-an-input i s l));
+      record {
+        inputs-fit = λ i w. fits (λ k. comesFrom L k i) (λ s l. counted-once (λ k. comesFrom L k i) s (one-row-an-input i s l));
         outputs-fit = λ j w.
-          fits (λ k. goesTo L k j)
-          (λ s l. counted-once (λ k. goesTo L k j) s
-          (λ a b la lb da db x y. omega (arith, own-row j s l a la da x, own-row j s l b lb db y))) }
+            fits (λ k. goesTo L k j)
+            (λ s l. counted-once (λ k. goesTo L k j) s
+            (λ a b la lb da db x y. omega (arith, own-row j s l a la da x, own-row j s l b lb db y)));
+      }

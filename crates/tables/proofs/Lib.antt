@@ -4,3 +4,4 @@ pub mod Entries
 pub mod Checked
 pub mod Rows
 pub mod Counting
+pub mod Judgement

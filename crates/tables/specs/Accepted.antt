@@ -1,5 +1,5 @@
 -- What a table is, and when it is accepted for a list. Every table, built or brought in, is judged by this one definition.
-use Prim.Native.Nat.{ℕ, suc, _+_, _*_, _<_}
+use Prim.Native.Nat.{ℕ, suc, _+_, _*_, _/_, _<_}
 use mathlib.Core.Path.{_≡_}
 use mathlib.Core.Logic.{_⊎_}
 use mathlib.Core.Bool.{Bool, true}
@@ -29,3 +29,22 @@ pub record Accepted (M N : ℕ) (L T : List ℕ) : Type 0 where
   pub input-once : (s a b : ℕ) → s < M → a < N → b < N → (a ≡ b → ⊥) → (entry M T a s ≡ 0 → ⊥) → (entry M T b s ≡ 0 → ⊥) → inputOf L (entry M T a s) ≡ inputOf L (entry M T b s) → ⊥
   -- each flow stands in the table exactly as many times as its cells
   pub exact-counts : (k : ℕ) → IsFlow L k → times M N T k ≡ cellsOf L k
+
+-- what can be wrong with a table, in the words of the three facts: the entry at place p is neither 0 nor a flow of that row
+abbrev pub NotOfRow : ℕ → List ℕ → List ℕ → ℕ → Type 0
+NotOfRow M L T p = (getD T p 0 ≡ 0) ⊎ FlowOf L (suc (p / M)) (getD T p 0) → ⊥
+
+-- two rows hold flows of one input at slot s
+pub record InputTwice (M N : ℕ) (L T : List ℕ) (s : ℕ) : Type 0 where
+  pub one-row : ℕ
+  pub other-row : ℕ
+  pub one-there : one-row < N
+  pub other-there : other-row < N
+  pub apart : one-row ≡ other-row → ⊥
+  pub one-filled : entry M T one-row s ≡ 0 → ⊥
+  pub other-filled : entry M T other-row s ≡ 0 → ⊥
+  pub one-input : inputOf L (entry M T one-row s) ≡ inputOf L (entry M T other-row s)
+
+-- flow k does not stand in the table as many times as its cells
+abbrev pub CountWrong : ℕ → ℕ → List ℕ → List ℕ → ℕ → Type 0
+CountWrong M N L T k = times M N T k ≡ cellsOf L k → ⊥
