@@ -177,3 +177,16 @@ module _
         off : (k : ℕ) → from ≤ k → k < from + count → (b : Bool) → test k ≡ b → b ≡ false
         off k a u true e = absurd (h k a u (says k a u e))
         off k a u false e = refl
+
+-- conditions of two lists, one after the other
+pub none-first : (rs more : List Rule) → NoneHolds (rs ++ more) → NoneHolds rs
+none-first [] more h = tt
+none-first (r ∷ rs) more h = (h .0, none-first rs more (h .1))
+
+pub none-later : (rs more : List Rule) → NoneHolds (rs ++ more) → NoneHolds more
+none-later [] more h = h
+none-later (r ∷ rs) more h = none-later rs more (h .1)
+
+pub none-both : (rs more : List Rule) → NoneHolds rs → NoneHolds more → NoneHolds (rs ++ more)
+none-both [] more h k = k
+none-both (r ∷ rs) more h k = (h .0, none-both rs more (h .1) k)

@@ -6,7 +6,7 @@ use mathlib.Core.Bool.{Bool, true, false, not, _&&_, _||_, true≢false}
 use mathlib.Core.List.{List, [], _∷_}
 use native.Mathlib.Omega.{arith}
 use native.Mathlib.Decide.{ℕ-discrete, decLt}
-use native.Mathlib.Nat.{div-add-mod', mod-lt, div-lt-iff-lt-mul}
+use native.Mathlib.Nat.{div-add-mod', mod-lt, div-lt-iff-lt-mul, mul-zero}
 use borrow.Author.Tests.{eq-eqb, ne-eqb, eqb-true, eqb-false, not-true, not-false, ltb-true}
 use lib.Dec.{eqb}
 use lib.ListN.{getD}
@@ -49,7 +49,12 @@ right-entry L j e (inr f) =
     last true = refl
     last false = refl
 
-module _ (M N : ℕ) (L T : List ℕ) (some : 0 < M) where
+-- a table with a place has a slot
+some-slot : (p N M : ℕ) → p < N * M → 0 < M
+some-slot p N zero u = absurd (omega (arith, mul-zero N))
+some-slot p N (suc M) u = omega arith
+
+module _ (M N : ℕ) (L T : List ℕ) where
   rows-right : Nowhere 0 (N * M) (notOfRow M L T) → (r s : ℕ) → r < N → s < M → (entry M T r s ≡ 0) ⊎ FlowOf L (suc r) (entry M T r s)
   rows-right h r s lr ls =
       subst (λ (x : ℕ). (entry M T r s ≡ 0) ⊎ FlowOf L (suc x) (entry M T r s)) (digits-div r ls)
@@ -59,7 +64,7 @@ module _ (M N : ℕ) (L T : List ℕ) (some : 0 < M) where
   right-rows h p a u =
       right-entry L (suc (p / M)) (getD T p 0)
       (subst (λ (x : ℕ). (getD T x 0 ≡ 0) ⊎ FlowOf L (suc (p / M)) (getD T x 0)) (div-add-mod' p M)
-      (h (p / M) (p % M) (div-lt-iff-lt-mul some .1 u) (mod-lt p some)))
+      (h (p / M) (p % M) (div-lt-iff-lt-mul (some-slot p N M u) .1 u) (mod-lt p (some-slot p N M u))))
 
   shares : (s a b : ℕ) → (entry M T a s ≡ 0 → ⊥) → (entry M T b s ≡ 0 → ⊥) → inputOf L (entry M T a s) ≡ inputOf L (entry M T b s) → shareInput M L T s a b ≡ true
   shares s a b da db e =

@@ -6,11 +6,11 @@ use mathlib.Core.List.{List, []}
 use native.Mathlib.Omega.{arith}
 use native.Mathlib.Nat.{mul-le-mul-right, suc-mul}
 use borrow.Author.Tests.{eq-eqb, ne-eqb, ltb-false}
-use lib.ListN.{length, take, drop}
+use lib.ListN.{length, take, drop, length-take, length-drop}
 use lib.IntN.{pos}
 use Rattle.answers.specs.declared.Answer.{Answer}
 use Rattle.answers.specs.Numbers.{DONE}
-use Rattle.answers.specs.Limits.{Within}
+use Rattle.answers.specs.Limits.{maxFrame, Within}
 use Rattle.answers.specs.Answers.{doneWith}
 use Rattle.answers.proofs.Ranges.{inside}
 use Rattle.answers.proofs.First.{none-of-them}
@@ -34,6 +34,10 @@ module _ (M N : ℕ) (T : List ℕ) (j : ℕ) (a : Answer) (e : a ≡ rowAnswer 
     unfolding rowAnswer
     output-within = inside (none-of-them (rowRules M N (length T) j) [] (doneWith (pos 0)) a e tt d .1 .1 .1 .0)
 
+    pub some-slots : 1 ≤ M
+    unfolding rowAnswer
+    some-slots = inside {low = 1} {high = maxFrame} {x = M} (none-of-them (rowRules M N (length T) j) [] (doneWith (pos 0)) a e tt d .0) .at-least
+
     pub row-ends : (j - 1) * M + M ≤ length T
     unfolding rowAnswer
     row-ends =
@@ -49,3 +53,9 @@ module _ (M N : ℕ) (T : List ℕ) (j : ℕ) (a : Answer) (e : a ≡ rowAnswer 
 
     pub part-start : (j - 1) * M ≡ rowStart M N (length T) j
     part-start = sym (ap (λ (b : Bool). cond b ((j - 1) * M) 0) row-there)
+
+    -- no row is empty
+    pub some-bytes : rowPart M N T j ≡ [] → ⊥
+    some-bytes x =
+        let cut = ap (λ (b : Bool). cond b (take M (drop ((j - 1) * M) T)) []) row-there in
+        omega (arith, ap length (sym cut ∙ x), length-take M (drop ((j - 1) * M) T), length-drop ((j - 1) * M) T, row-ends, some-slots)

@@ -1,0 +1,175 @@
+-- Delays: the proofs of what `specs/Delays.antt` states.
+use Prim.Native.Nat.{ℕ, zero, suc, _+_, _-_, _*_, _/_, _%_, _≤_, _<_}
+use mathlib.Core.Path.{_≡_, refl, sym, _∙_, ap, subst}
+use mathlib.Core.Logic.{_↔_, _⊎_, inl, inr}
+use mathlib.Core.Bool.{Bool, true, false, cond}
+use mathlib.Core.List.{List}
+use native.Mathlib.Omega.{arith}
+use native.Mathlib.Nat.{div-add-mod', mod-lt, le-div-iff-mul-le, mul-comm, mul-le-mul, zero-mul, suc-mul}
+use borrow.Author.Tests.{ltb-true, ltb-false, eqb-false}
+use lib.Dec.{T, leb, ltb, eqb, le→leb, leb→le, lt→ltb}
+use lib.IntN.{ℤ, pos, negsuc, sucℤ, negℤ, _-ℤ_, _*ℤ_}
+use lib.Signed.{_≤ℤ_, _<ℤ_, leZ, ltZ, mag}
+use Rattle.answers.specs.declared.Answer.{Answer}
+use Rattle.answers.specs.Numbers.{DONE}
+use Rattle.answers.specs.Limits.{maxFrame, maxLinks, maxDeadline, maxPeriod, maxBits, Within}
+use Rattle.answers.specs.Lowest.{lowest}
+use Rattle.answers.specs.Answers.{Rule, doneWith, first}
+use Rattle.answers.proofs.Ranges.{inside, either-false}
+use Rattle.answers.proofs.First.{NoneHolds, lacks, first-none, lacked}
+use Rattle.margins.specs.Margins.{bound, marginOf, roomOf, floorDiv, leastTimes, fitOf, cellsFor, cellBits, marginRules, fitRules, cellsRules, marginAnswer, fitAnswer, cellsAnswer}
+use Rattle.margins.proofs.Times.{least-reaches, lower-fails, quotient-some}
+use Rattle.demands.specs.Delays.{InTimeIffRoom, RoundedDown, RoomRoundsDown, lowestMargin, highestMargin, MarginInRange, MarginEndsReached, LeastTimes, FitIsLeast, CellsAreLeast}
+
+-- a difference of two numbers, by which is larger
+Less : ℕ → ℕ → Type 0
+Less a b = ((a < b) × (pos a -ℤ pos b ≡ negsuc (b - suc a))) ⊎ ((b ≤ a) × (pos a -ℤ pos b ≡ pos (a - b)))
+
+less : (a b : ℕ) → Less a b
+unfolding Less
+less a zero = inr (omega arith, ap pos (omega arith))
+less a (suc b) = go (ltb a (suc b)) refl
+  where
+    go : (t : Bool) → ltb a (suc b) ≡ t
+        → ((a < suc b) × (cond t (negsuc (suc b - suc a)) (pos (a - suc b)) ≡ negsuc (suc b - suc a)))
+        ⊎ ((suc b ≤ a) × (cond t (negsuc (suc b - suc a)) (pos (a - suc b)) ≡ pos (a - suc b)))
+    go true e = inl (ltb-true a (suc b) e, refl)
+    go false e = inr (ltb-false a (suc b) e, refl)
+
+never : (h n : ℕ) → pos h ≤ℤ negsuc n → ⊥
+never h n x = x .le
+
+-- h links take no more than what is left of the deadline exactly if they fit into it so many times
+links-fit : (M h H : ℕ) → M ≤ H → (h ≤ (H - M) / (M + 1)) ↔ (bound M h ≤ H)
+links-fit M h H w =
+    let law = le-div-iff-mul-le {k = M + 1} {x = h} {y = H - M} (omega arith) in
+    (λ x. omega (arith, law .0 x, mul-comm h (M + 1)), λ x. law .1 (omega (arith, mul-comm h (M + 1))))
+
+pub in-time-iff-room : InTimeIffRoom
+unfolding Less
+in-time-iff-room M h H = go (less H (bound M h)) (less H M)
+  where
+    margin : ℤ → Type 0
+    margin z = pos 0 ≤ℤ z
+
+    room : ℤ → Type 0
+    room z = pos h ≤ℤ floorDiv z (M + 1)
+
+    go : Less H (bound M h) → Less H M → (pos 0 ≤ℤ marginOf M h H) ↔ (pos h ≤ℤ roomOf M H)
+    go (inl late) (inl short) =
+        (λ x. absurd (never 0 (bound M h - suc H) (subst margin (late .1) x)), λ x. absurd (never h ((M - suc H) / (M + 1)) (subst room (short .1) x)))
+    go (inl late) (inr wide) = (
+      λ x. absurd (never 0 (bound M h - suc H) (subst margin (late .1) x)),
+      λ x. absurd (omega (arith, links-fit M h H (wide .0) .0 (leb→le h ((H - M) / (M + 1)) (subst room (wide .1) x .le)), late .0)),
+    )
+    go (inr early) (inl short) = absurd (omega (arith, early .0, short .0))
+    go (inr early) (inr wide) = (
+      λ x. subst room (sym (wide .1)) (record { le = le→leb h ((H - M) / (M + 1)) (links-fit M h H (wide .0) .1 (early .0)) }),
+      λ x. subst margin (sym (early .1)) (record { le = le→leb 0 (H - bound M h) (omega arith) }),
+    )
+
+-- a number that is not 0, taken below zero
+negated : (n : ℕ) → 0 < n → negℤ (pos n) ≡ negsuc (n - 1)
+negated zero l = absurd (omega arith)
+negated (suc n) l = ap negsuc (omega arith)
+
+-- rounding down is rounding down, below zero too
+floor-law : (z : ℤ) (d : ℕ) → 0 < d → RoundedDown z d (floorDiv z d)
+floor-law (pos a) d some =
+    record {
+      not-above = record { le = le→leb (a / d * d) a (omega (arith, div-add-mod' a d)) };
+      nearest = record { lt = lt→ltb a (suc (a / d) * d) (omega (arith, div-add-mod' a d, mod-lt a some, suc-mul (a / d) d)) };
+    }
+floor-law (negsuc a) d some = record { not-above = above; nearest = near (a / d) refl }
+  where
+    over : a < suc (a / d) * d
+    over = omega (arith, div-add-mod' a d, mod-lt a some, suc-mul (a / d) d)
+
+    above : (negsuc (a / d) *ℤ pos d) ≤ℤ negsuc a
+    above =
+        subst (λ (z : ℤ). z ≤ℤ negsuc a) (sym (negated (suc (a / d) * d) (omega (arith, over))))
+        (record { le = le→leb a (suc (a / d) * d - 1) (omega (arith, over)) })
+
+    near : (q : ℕ) → a / d ≡ q → negsuc a <ℤ (sucℤ (negsuc q) *ℤ pos d)
+    near zero e = record { lt = tt }
+    near (suc q) e =
+        let reach : suc q * d ≤ a = omega (arith, div-add-mod' a d, ap (λ (x : ℕ). x * d) e) in
+        let some-of : 0 < suc q * d = omega (arith, suc-mul q d) in
+        subst (λ (z : ℤ). negsuc a <ℤ z) (sym (negated (suc q * d) some-of)) (record { lt = lt→ltb (suc q * d - 1) a (omega arith) })
+
+pub room-rounds-down : RoomRoundsDown
+room-rounds-down M H = floor-law (pos H -ℤ pos M) (M + 1) (omega arith)
+
+-- an answer that is done was refused by none of the rules
+done-rules : (rs : List Rule) (d m : ℤ) → T (lacks DONE rs) → first rs (doneWith d) ≡ doneWith m → NoneHolds rs × (d ≡ m)
+done-rules rs d m t e =
+    let none = lacked DONE rs (doneWith d) t (ap (λ (a : Answer). a .number) e) .0 in
+    (none, ap (λ (a : Answer). a .detail) (sym (first-none rs (doneWith d) none) ∙ e))
+
+pub margin-in-range : MarginInRange
+unfolding marginAnswer Less
+margin-in-range M h H m e = subst (λ (z : ℤ). (lowestMargin ≤ℤ z) × (z ≤ℤ highestMargin)) (known .1) (go (less H (bound M h)))
+  where
+    known : NoneHolds (marginRules M h H) × (marginOf M h H ≡ m)
+    known = done-rules (marginRules M h H) (marginOf M h H) m tt e
+
+    frames : Within 1 maxFrame M
+    frames = inside (known .0 .0)
+
+    links : Within 0 maxLinks h
+    links = inside (known .0 .1 .0)
+
+    deadlines : Within 0 maxDeadline H
+    deadlines = inside (known .0 .1 .1 .0)
+
+    most : (M + 1) * h ≤ (maxFrame + 1) * maxLinks
+    most = mul-le-mul {n₁ = M + 1} {m₁ = h} {n₂ = maxFrame + 1} {m₂ = maxLinks} (omega (arith, frames)) (links .at-most)
+
+    go : Less H (bound M h) → (lowestMargin ≤ℤ marginOf M h H) × (marginOf M h H ≤ℤ highestMargin)
+    go (inl late) =
+        subst (λ (z : ℤ). (lowestMargin ≤ℤ z) × (z ≤ℤ highestMargin)) (sym (late .1))
+        (record { le = le→leb (bound M h - suc H) 512254 (omega (arith, most, frames)) }, record { le = tt })
+    go (inr early) =
+        subst (λ (z : ℤ). (lowestMargin ≤ℤ z) × (z ≤ℤ highestMargin)) (sym (early .1))
+        (record { le = tt }, record { le = le→leb (H - bound M h) 999999 (omega (arith, frames, deadlines)) })
+
+pub margin-ends-reached : MarginEndsReached
+unfolding marginAnswer
+margin-ends-reached = (refl, refl)
+
+pub fit-is-least : FitIsLeast
+unfolding fitAnswer
+fit-is-least M P C c e =
+    record {
+      enough = subst (λ (x : ℕ). C ≤ x * (P / M)) same (least-reaches (P / M) C some cells);
+      no-less = λ b l. lower-fails (P / M) C some cells b (omega (arith, same));
+    }
+  where
+    known : NoneHolds (fitRules M P C) × (pos (fitOf M P C) ≡ pos c)
+    known = done-rules (fitRules M P C) (pos (fitOf M P C)) (pos c) tt e
+
+    same : fitOf M P C ≡ c
+    same = ap mag (known .1)
+
+    some : 0 < P / M
+    some = quotient-some P M (inside (known .0 .0) .at-least) (inside (known .0 .1 .0) .at-least)
+
+    cells : 0 < C
+    cells = omega (arith, eqb-false C 0 (either-false (eqb C 0) (ltb M (fitOf M P C)) (known .0 .1 .1 .0) .0))
+
+pub cells-are-least : CellsAreLeast
+unfolding cellsAnswer
+cells-are-least bits c e =
+    record {
+      enough = subst (λ (x : ℕ). bits ≤ x * cellBits) same (least-reaches cellBits bits (omega arith) some);
+      no-less = λ b l. lower-fails cellBits bits (omega arith) some b (omega (arith, same));
+    }
+  where
+    known : NoneHolds (cellsRules bits) × (pos (cellsFor bits) ≡ pos c)
+    known = done-rules (cellsRules bits) (pos (cellsFor bits)) (pos c) tt e
+
+    same : cellsFor bits ≡ c
+    same = ap mag (known .1)
+
+    some : 0 < bits
+    some = inside {low = 1} {high = maxBits} (known .0 .0) .at-least

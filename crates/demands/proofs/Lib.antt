@@ -1,0 +1,2 @@
+pub mod Delays
+pub mod Tables
