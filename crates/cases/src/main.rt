@@ -1,0 +1,55 @@
+// Runs the cases of document 01 that are not proved of the definitions, and prints a line for each: what was asked, number, comma, detail.
+ghost use mathlib.Core.Path.{_≡_};
+ghost use lib.IntN.{natAbs};
+use answers::Answer;
+use libc::STDOUT_FILENO;
+
+// How large a detail is, its sign left out.
+fn magnitude(detail: i32) -> u64
+    ensures { λ r. ⌜ r ≡ natAbs detail ⌝ }
+{
+    let wide = detail as i64;
+    if wide < 0 {
+        return (0 - wide) as u64;
+    }
+    wide as u64
+}
+
+fn print_detail(detail: i32) {
+    if detail < 0 {
+        io::write_all(STDOUT_FILENO, b"-");
+    }
+    io::print_decimal(STDOUT_FILENO, magnitude(detail));
+}
+
+fn print_answer(case: &[u8], a: Answer) {
+    io::write_all(STDOUT_FILENO, case);
+    io::write_all(STDOUT_FILENO, b": ");
+    io::print_decimal(STDOUT_FILENO, a.number as u64);
+    io::write_all(STDOUT_FILENO, b",");
+    print_detail(a.detail);
+    io::write_all(STDOUT_FILENO, b"\n");
+}
+
+fn cells_of_messages() {
+    print_answer(b"cells of 500 bits", margins::cells(500));
+    print_answer(b"cells of 501 bits", margins::cells(501));
+    print_answer(b"cells of 1000 bits", margins::cells(1000));
+}
+
+fn frames_at_their_limits() {
+    let list = [1u16; 3];
+    let table = [0u8; 1];
+    print_answer(
+        b"check with frame 0 and ports 0",
+        tables::check::check(0, 0, &list, &table),
+    );
+    print_answer(b"margin in frame 0", margins::margin(0, 0, 0));
+    print_answer(b"margin in frame 2000", margins::margin(2000, 0, 1999));
+    print_answer(b"margin in frame 2001", margins::margin(2001, 0, 1999));
+}
+
+fn main() {
+    cells_of_messages();
+    frames_at_their_limits();
+}
