@@ -1,2 +1,3 @@
 pub mod Delays
 pub mod Tables
+pub mod OneOutcome

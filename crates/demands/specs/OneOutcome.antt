@@ -1,0 +1,34 @@
+-- No call has two different outcomes under its promise: whatever the arguments x, two results that the function's contract allows are equal.
+-- `Learnt κ x a l` is the contract itself, as its source states it: with the arguments x the result may be a (κ and l, lifetimes and what lent memory holds after, do not matter here).
+use mathlib.Core.Path.{_≡_}
+use Rattle.margins.proofs.margin.Reads as margin
+use Rattle.margins.proofs.room.Reads as room
+use Rattle.margins.proofs.fit.Reads as fit
+use Rattle.margins.proofs.cells.Reads as cells
+use Rattle.tables.proofs.check.check.Reads as check
+use Rattle.tables.proofs.row.row_answer.Reads as row-answer
+use Rattle.tables.proofs.row.row.Reads as row
+
+abbrev pub OneMargin : Type 0
+OneMargin = (κ : _) (x : _) (a b : _) (l m : _) → margin.Learnt κ x a l → margin.Learnt κ x b m → a ≡ b
+
+abbrev pub OneRoom : Type 0
+OneRoom = (κ : _) (x : _) (a b : _) (l m : _) → room.Learnt κ x a l → room.Learnt κ x b m → a ≡ b
+
+abbrev pub OneFit : Type 0
+OneFit = (κ : _) (x : _) (a b : _) (l m : _) → fit.Learnt κ x a l → fit.Learnt κ x b m → a ≡ b
+
+abbrev pub OneCells : Type 0
+OneCells = (κ : _) (x : _) (a b : _) (l m : _) → cells.Learnt κ x a l → cells.Learnt κ x b m → a ≡ b
+
+abbrev pub OneCheck : Type 0
+OneCheck = (κ : _) (x : _) (a b : _) (l m : _) → check.Learnt κ x a l → check.Learnt κ x b m → a ≡ b
+
+abbrev pub OneRowAnswer : Type 0
+OneRowAnswer = (κ : _) (x : _) (a b : _) (l m : _) → row-answer.Learnt κ x a l → row-answer.Learnt κ x b m → a ≡ b
+
+-- of a row, the bytes and where they lie
+abbrev pub OneRow : Type 0
+OneRow =
+    (κ : _) (x : _) (a b : _) (l m : _)
+    → row.Learnt κ x a l → row.Learnt κ x b m → (a .now ≡ b .now) × ((a .ptr .0 ≡ b .ptr .0) × (a .ptr .1 ≡ b .ptr .1))
