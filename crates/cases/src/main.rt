@@ -49,7 +49,18 @@ fn frames_at_their_limits() {
     print_answer(b"margin in frame 2001", margins::margin(2001, 0, 1999));
 }
 
+fn offers_at_the_limit() {
+    let mut waiting = [3999u16; 1];
+    print_answer(
+        b"waiting 3999, offer 1",
+        forwarding::offer(&mut waiting, 1, 1),
+    );
+    print_answer(b"then offer 1", forwarding::offer(&mut waiting, 1, 1));
+    print_answer(b"then offer 0", forwarding::offer(&mut waiting, 1, 0));
+}
+
 fn main() {
     cells_of_messages();
     frames_at_their_limits();
+    offers_at_the_limit();
 }

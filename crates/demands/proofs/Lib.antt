@@ -1,3 +1,4 @@
 pub mod Delays
 pub mod Tables
+pub mod Switch
 pub mod OneOutcome

@@ -1,0 +1,12 @@
+pub mod Done
+pub mod Outcomes
+pub mod Serving
+pub mod SentBuffer
+pub mod Cells
+pub mod Rotation
+pub mod Keeping
+pub mod Count
+pub mod Shares
+pub mod Isolation
+pub mod OneOutcome
+pub mod WorkedRun
