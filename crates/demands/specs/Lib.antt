@@ -1,4 +1,5 @@
 pub mod Delays
 pub mod Tables
+pub mod PlanText
 pub mod Switch
 pub mod OneOutcome

@@ -1,0 +1,16 @@
+pub mod Bytes
+pub mod Copying
+pub mod Standing
+pub mod Scanning
+pub mod TakingOver
+pub mod Words
+pub mod ReadText
+pub mod Digits
+pub mod Running
+pub mod Fields
+pub mod SoFar
+pub mod Recognised
+pub mod Longest
+pub mod RoundTrip
+pub mod Putting
+pub mod Lines
