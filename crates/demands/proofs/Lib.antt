@@ -1,5 +1,6 @@
 pub mod Delays
 pub mod Tables
+pub mod Builder
 pub mod PlanText
 pub mod Switch
 pub mod OneOutcome

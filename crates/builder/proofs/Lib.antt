@@ -1,0 +1,13 @@
+pub mod Exchange
+pub mod Places
+pub mod Alternation
+pub mod Sides
+pub mod Loads
+pub mod Kept
+pub mod SameFlows
+pub mod Placing
+pub mod Remarking
+pub mod Adding
+pub mod Progress
+pub mod Existence
+pub mod Outcome
