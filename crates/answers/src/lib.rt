@@ -1,7 +1,7 @@
 // The fixed list: what every call answers with, and the limits, each under one name.
 ghost use mathlib.Core.Path.{_≡_};
 ghost use Prim.Native.Nat.{_<_};
-ghost use lib.IntN.{pos};
+ghost use lib.IntN.{pos, natAbs};
 ghost use Rattle.answers.specs.Answers.{refusal, answer};
 ghost use Rattle.answers.specs.Limits.{maxDetail, outside};
 
@@ -111,4 +111,15 @@ pub fn outside(low: usize, high: usize, x: usize) -> bool
         return true;
     }
     high < x
+}
+
+// How large a detail is, its sign left out.
+pub fn magnitude(detail: i32) -> u64
+    ensures { λ r. ⌜ r ≡ natAbs detail ⌝ }
+{
+    let wide = detail as i64;
+    if wide < 0 {
+        return (0 - wide) as u64;
+    }
+    wide as u64
 }

@@ -1,25 +1,12 @@
 // Runs the cases of document 01 that are not proved of the definitions, and prints a line for each: what was asked, number, comma, detail.
-ghost use mathlib.Core.Path.{_≡_};
-ghost use lib.IntN.{natAbs};
 use answers::Answer;
 use libc::STDOUT_FILENO;
-
-// How large a detail is, its sign left out.
-fn magnitude(detail: i32) -> u64
-    ensures { λ r. ⌜ r ≡ natAbs detail ⌝ }
-{
-    let wide = detail as i64;
-    if wide < 0 {
-        return (0 - wide) as u64;
-    }
-    wide as u64
-}
 
 fn print_detail(detail: i32) {
     if detail < 0 {
         io::write_all(STDOUT_FILENO, b"-");
     }
-    io::print_decimal(STDOUT_FILENO, magnitude(detail));
+    io::print_decimal(STDOUT_FILENO, answers::magnitude(detail));
 }
 
 fn print_answer(case: &[u8], a: Answer) {

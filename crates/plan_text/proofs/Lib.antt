@@ -13,4 +13,5 @@ pub mod Recognised
 pub mod Longest
 pub mod RoundTrip
 pub mod Putting
-pub mod Lines
+pub mod PlanLines
+pub mod RowLines

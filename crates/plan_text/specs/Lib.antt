@@ -2,3 +2,4 @@ pub mod Digits
 pub mod Form
 pub mod Reading
 pub mod Plans
+pub mod Lines

@@ -1,6 +1,6 @@
 -- `plan_text::writing::put_ended` meets its contract.
 use Rattle.plan_text.proofs.Putting.{put-then}
-use Rattle.plan_text.proofs.Lines.{ended-length}
+use Rattle.plan_text.proofs.PlanLines.{ended-length}
 use native.Mathlib.Omega.{arith}
 use borrow.Author.Needs.{needs}
 use Rattle.plan_text.proofs.writing.put_ended.Statement.{statement}

@@ -1,6 +1,6 @@
 -- `plan_text::writing::put_flow` meets its contract.
 use Rattle.plan_text.proofs.Putting.{put-then, put-as}
-use Rattle.plan_text.proofs.Lines.{ended-length, flow-is, flow-length}
+use Rattle.plan_text.proofs.PlanLines.{ended-length, flow-is, flow-length}
 use Rattle.plan_text.specs.Form.{comma, lineFeed}
 use native.Mathlib.Omega.{arith}
 use borrow.Author.Needs.{needs}

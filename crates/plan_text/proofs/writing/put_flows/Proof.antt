@@ -1,5 +1,5 @@
 -- `plan_text::writing::put_flows` meets its contract: what was put and the lines left make all lines.
-use Rattle.plan_text.proofs.Lines.{LinesPut, lines-none, line-room, lines-more, lines-all, same-line}
+use Rattle.plan_text.proofs.PlanLines.{LinesPut, lines-none, line-room, lines-more, lines-all, same-line}
 use Rattle.plan_text.proofs.Putting.{put-as}
 use Rattle.flows.specs.Flows.{flowCount}
 use lib.ListN.{length}

@@ -1,5 +1,5 @@
 -- `plan_text::writing::put_plan` meets its contract.
-use Rattle.plan_text.proofs.Lines.{plan-length, plan-is}
+use Rattle.plan_text.proofs.PlanLines.{plan-length, plan-is}
 use Rattle.plan_text.proofs.Putting.{put-then, put-as}
 use native.Mathlib.Omega.{arith}
 use borrow.Author.Needs.{needs}

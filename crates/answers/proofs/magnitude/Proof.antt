@@ -1,9 +1,9 @@
--- `cases::magnitude` meets its contract.
-use Rattle.cases.proofs.Sign.{fits-64, read-64, turned-fits, turned-casts, turned-size, kept-casts}
+-- `answers::magnitude` meets its contract.
+use Rattle.answers.proofs.Sign.{fits-64, read-64, turned-fits, turned-casts, turned-size, kept-casts}
 use lib.IntN.{natAbs}
 use mathlib.Core.Path.{ap}
-use Rattle.cases.proofs.magnitude.Statement.{statement}
-use Rattle.cases.proofs.magnitude.Tie as tie
+use Rattle.answers.proofs.magnitude.Statement.{statement}
+use Rattle.answers.proofs.magnitude.Tie as tie
 
 cast-wide : tie.Need-cast-wide
 cast-wide c = fits-64 (c .args .detail) (c .fits .detail)
