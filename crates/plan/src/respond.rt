@@ -1,5 +1,7 @@
 // The planner's work on slices: a text in, an answer and a table out.
-use answers::{Answer, DONE, MAX_FLOWS};
+use answers::Answer;
+use answers::DONE;
+use answers::MAX_FLOWS;
 use flows::PER_FLOW;
 ghost use Rattle.plan.specs.Responding.{Responded};
 

@@ -1,5 +1,5 @@
 -- Signed numbers, answers and rows, as their parts are put.
-use Prim.Native.Nat.{ℕ, zero, suc, _+_, _≤_, _<_}
+use Prim.Native.Nat.{ℕ, zero, suc, _+_, _*_, _^_, _≤_, _<_}
 use mathlib.Core.Path.{_≡_, refl, sym, _∙_, ap, subst}
 use mathlib.Core.Bool.{true, false, true≢false}
 use mathlib.Core.List.{List, [], _∷_, _++_, append-assoc, append-nil}
@@ -18,6 +18,7 @@ use Rattle.plan_text.specs.Digits.{digits}
 use Rattle.plan_text.specs.Form.{comma, lineFeed}
 use Rattle.plan_text.specs.Plans.{Put}
 use Rattle.plan_text.specs.Lines.{minus, signed, joined, joinedTail, answerKey, answerLine, outKey, outLine}
+use Rattle.plan_text.proofs.Digits.{digits-length}
 use Rattle.plan_text.proofs.Putting.{put-then, put-as}
 
 signed-below : (z : ℤ) → ltZ z (pos 0) ≡ true → minus ∷ digits (natAbs z) ≡ signed z
@@ -51,11 +52,12 @@ pub record TailPut (before : List ℕ) (at : ℕ) (row after : List ℕ) (next s
 
 pub tail-none : (before : List ℕ) (at : ℕ) (row : List ℕ) → TailPut before at row before at 1
 tail-none before at row =
-    record
-    { as-long = refl;
+    record {
+      as-long = refl;
       bytes = [];
       put = record { next-is = sym (add-zero at); front = sym (append-nil (take at before)); beyond = refl };
-      rest = refl }
+      rest = refl;
+    }
 
 module _ {before : List ℕ} {at : ℕ} {row after : List ℕ} {next slot : ℕ} (w : TailPut before at row after next slot) (u : slot < length row) where
   all-entries : w .bytes ++ ((comma ∷ digits (getD row slot 0)) ++ joinedTail (drop (slot + 1) row)) ≡ joinedTail (drop 1 row)
@@ -63,18 +65,24 @@ module _ {before : List ℕ} {at : ℕ} {row after : List ℕ} {next slot : ℕ}
 
   pub entry-room : at + length (joinedTail (drop 1 row)) ≤ length before → next + length (comma ∷ digits (getD row slot 0)) ≤ length after
   entry-room h =
-      omega (arith, w .as-long, w .put .next-is, ap length all-entries,
-      length-append (w .bytes) ((comma ∷ digits (getD row slot 0)) ++ joinedTail (drop (slot + 1) row)),
-      length-append (comma ∷ digits (getD row slot 0)) (joinedTail (drop (slot + 1) row)))
+      omega (
+        arith,
+        w .as-long,
+        w .put .next-is,
+        ap length all-entries,
+        length-append (w .bytes) ((comma ∷ digits (getD row slot 0)) ++ joinedTail (drop (slot + 1) row)),
+        length-append (comma ∷ digits (getD row slot 0)) (joinedTail (drop (slot + 1) row)),
+      )
 
   pub tail-more : (later : List ℕ) (place : ℕ) → length later ≡ length after → Put after next (comma ∷ digits (getD row slot 0)) later place
       → TailPut before at row later place (slot + 1)
   tail-more later place e q =
-      record
-      { as-long = e ∙ w .as-long;
+      record {
+        as-long = e ∙ w .as-long;
         bytes = w .bytes ++ comma ∷ digits (getD row slot 0);
         put = put-then (w .put) q;
-        rest = append-assoc (w .bytes) (comma ∷ digits (getD row slot 0)) (joinedTail (drop (slot + 1) row)) ∙ all-entries }
+        rest = append-assoc (w .bytes) (comma ∷ digits (getD row slot 0)) (joinedTail (drop (slot + 1) row)) ∙ all-entries;
+      }
 
 pub tail-all : {before : List ℕ} {at : ℕ} {row after : List ℕ} {next slot : ℕ} → TailPut before at row after next slot → length row ≤ slot
     → Put before at (joinedTail (drop 1 row)) after next
@@ -111,3 +119,25 @@ row-is row = append-assoc outKey (joined row) (lineFeed ∷ [])
 
 pub row-length : (row : List ℕ) → length (outLine row) ≡ 4 + length (joined row) + 1
 row-length row = omega (arith, length-append (joined row) (lineFeed ∷ []))
+
+-- how long the lines can be: a number of 32 bits has at most 10 digits, a byte at most 3
+pub answer-short : (number : ℕ) (detail : ℤ) → number < 2 ^ 32 → SFits w32 detail → length (answerLine number detail) ≤ 32
+answer-short number detail n f = omega (arith, answer-length number detail, digits-length 9 number (omega arith) (omega arith), signed-short detail f)
+  where
+    signed-short : (z : ℤ) → SFits w32 z → length (signed z) ≤ 11
+    signed-short (pos k) g = omega (arith, digits-length 9 k (omega (arith, g .sfits)) (omega (arith, g .sfits)))
+    signed-short (negsuc k) g = omega (arith, digits-length 9 (suc k) (omega (arith, g .sfits)) (omega (arith, g .sfits)))
+
+tail-short : (row : List ℕ) → ((i : ℕ) → getD row i 0 < 256) → length (joinedTail row) ≤ 4 * length row
+unfolding joinedTail
+tail-short [] h = omega arith
+tail-short (e ∷ row) h =
+    omega (arith, length-append (digits e) (joinedTail row), digits-length 2 e (omega (arith, h 0)) (omega (arith, h 0)), tail-short row (λ i. h (suc i)))
+
+joined-short : (row : List ℕ) → ((i : ℕ) → getD row i 0 < 256) → length (joined row) ≤ 4 * length row
+joined-short [] h = omega arith
+joined-short (e ∷ row) h =
+    omega (arith, length-append (digits e) (joinedTail row), digits-length 2 e (omega (arith, h 0)) (omega (arith, h 0)), tail-short row (λ i. h (suc i)))
+
+pub row-short : (row : List ℕ) → ((i : ℕ) → getD row i 0 < 256) → length (outLine row) ≤ 4 * length row + 5
+row-short row h = omega (arith, row-length row, joined-short row h)

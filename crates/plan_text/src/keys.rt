@@ -7,10 +7,13 @@ pub const PORTS_KEY: [u8; 6] = *b"ports=";
 pub const FLOW_KEY: [u8; 5] = *b"flow=";
 
 pub const ANSWER_KEY: [u8; 7] = *b"answer=";
+
 pub const OUT_KEY: [u8; 4] = *b"out=";
+
 pub const LINE_FEED: u8 = b'\n';
 
 pub const COMMA: u8 = b',';
+
 pub const MINUS: u8 = b'-';
 
 // The byte of digit 0.

@@ -7,8 +7,14 @@ ghost use Rattle.plan_text.specs.Digits.{digits};
 ghost use Rattle.plan_text.specs.Form.{comma};
 ghost use Rattle.plan_text.specs.Plans.{Put};
 ghost use Rattle.plan_text.specs.Lines.{signed, joined, joinedTail, answerLine, outLine};
-use crate::keys::{ANSWER_KEY, COMMA, LINE_FEED, MINUS, OUT_KEY};
-use crate::writing::{put_byte, put_bytes, put_number};
+use crate::keys::ANSWER_KEY;
+use crate::keys::COMMA;
+use crate::keys::LINE_FEED;
+use crate::keys::MINUS;
+use crate::keys::OUT_KEY;
+use crate::writing::put_byte;
+use crate::writing::put_bytes;
+use crate::writing::put_number;
 
 fn wide(x: u8) -> u64
     ensures { λ r. ⌜ r ≡ x ⌝ }

@@ -6,7 +6,9 @@ use mathlib.Core.List.{List, []}
 use native.Mathlib.Omega.{arith}
 use native.Mathlib.Nat.{mul-le-mul-right, suc-mul}
 use borrow.Author.Tests.{eq-eqb, ne-eqb, ltb-false}
-use lib.ListN.{length, take, drop, length-take, length-drop}
+use lib.ListN.{length, getD, take, drop, length-take, length-drop, List·getD-eq-default}
+use lib.Seq.{getD-take, getD-drop}
+use native.Mathlib.Decide.{decLt}
 use lib.IntN.{pos}
 use Rattle.answers.specs.declared.Answer.{Answer}
 use Rattle.answers.specs.Numbers.{DONE}
@@ -59,3 +61,20 @@ module _ (M N : ℕ) (T : List ℕ) (j : ℕ) (a : Answer) (e : a ≡ rowAnswer 
     some-bytes x =
         let cut = ap (λ (b : Bool). cond b (take M (drop ((j - 1) * M) T)) []) row-there in
         omega (arith, ap length (sym cut ∙ x), length-take M (drop ((j - 1) * M) T), length-drop ((j - 1) * M) T, row-ends, some-slots)
+
+-- a row's part is no longer than the frame, and its entries are entries of the table
+pub part-short : (M N : ℕ) (T : List ℕ) (j : ℕ) → length (rowPart M N T j) ≤ M
+part-short M N T j = go (rowThere M N (length T) j)
+  where
+    go : (b : Bool) → length (cond b (take M (drop ((j - 1) * M) T)) []) ≤ M
+    go true = omega (arith, length-take M (drop ((j - 1) * M) T))
+    go false = omega arith
+
+pub part-below : (M N : ℕ) (T : List ℕ) (j most : ℕ) → 0 < most → ((i : ℕ) → getD T i 0 < most) → (i : ℕ) → getD (rowPart M N T j) i 0 < most
+part-below M N T j most some h i = go (rowThere M N (length T) j) (decLt i M)
+  where
+    go : (b : Bool) → Dec (i < M) → getD (cond b (take M (drop ((j - 1) * M) T)) []) i 0 < most
+    go false d = some
+    go true (yes u) = omega (arith, getD-take M (drop ((j - 1) * M) T) i 0 u, getD-drop ((j - 1) * M) T i 0, h ((j - 1) * M + i))
+    go true (no d) =
+        omega (arith, List·getD-eq-default (take M (drop ((j - 1) * M) T)) 0 {n = i} (omega (arith, length-take M (drop ((j - 1) * M) T))))

@@ -25,20 +25,42 @@ put-byte-requires : tie.Need-put-byte-requires
 put-byte-requires c κs = omega (arith, answer-length (c .before .before .before .before .before .before .before .before .before .before .before .args .number) (c .before .before .before .before .before .before .before .before .before .before .before .args .detail), c .before .before .before .before .before .before .before .before .before .before .before .pre, c .before .before .before .before .before .before .before .put-bytes .ensures .next-is, c .before .before .before .before .before .before .before .put-bytes .kept .0, c .before .before .before .put-number .ensures .next-is, c .before .before .before .put-number .kept .0)
 
 put-signed-requires : tie.Need-put-signed-requires
-put-signed-requires c κs = 
-    omega (arith, answer-length (c .before .before .before .before .before .before .before .before .before .before .before .before .before .before .before .args .number) (c .before .before .before .before .before .before .before .before .before .before .before .before .before .before .before .args .detail), c .before .before .before .before .before .before .before .before .before .before .before .before .before .before .before .pre, c .before .before .before .before .before .before .before .before .before .before .before .put-bytes .ensures .next-is, c .before .before .before .before .before .before .before .before .before .before .before .put-bytes .kept .0, c .before .before .before .before .before .before .before .put-number .ensures .next-is, c .before .before .before .before .before .before .before .put-number .kept .0,
-    c .before .before .before .put-byte .ensures .next-is, c .before .before .before .put-byte .kept .0, ap (λ (z : ℤ). length (signed z)) (toZ-ofZ w32 (c .before .before .before .before .before .before .before .before .before .before .before .before .before .before .before .args .detail) (c .before .before .before .before .before .before .before .before .before .before .before .before .before .before .before .fits .detail)))
+put-signed-requires c κs =
+    omega (
+      arith,
+      answer-length (c .before .before .before .before .before .before .before .before .before .before .before .before .before .before .before .args .number) (c .before .before .before .before .before .before .before .before .before .before .before .before .before .before .before .args .detail),
+      c .before .before .before .before .before .before .before .before .before .before .before .before .before .before .before .pre,
+      c .before .before .before .before .before .before .before .before .before .before .before .put-bytes .ensures .next-is,
+      c .before .before .before .before .before .before .before .before .before .before .before .put-bytes .kept .0,
+      c .before .before .before .before .before .before .before .put-number .ensures .next-is,
+      c .before .before .before .before .before .before .before .put-number .kept .0,
+      c .before .before .before .put-byte .ensures .next-is,
+      c .before .before .before .put-byte .kept .0,
+      ap (λ (z : ℤ). length (signed z)) (toZ-ofZ w32 (c .before .before .before .before .before .before .before .before .before .before .before .before .before .before .before .args .detail) (c .before .before .before .before .before .before .before .before .before .before .before .before .before .before .before .fits .detail)),
+    )
 
 put-byte-requires-2 : tie.Need-put-byte-requires-2
-put-byte-requires-2 c κs = 
-    omega (arith, answer-length (c .before .before .before .before .before .before .before .before .before .before .before .before .before .before .before .before .before .before .before .args .number) (c .before .before .before .before .before .before .before .before .before .before .before .before .before .before .before .before .before .before .before .args .detail), c .before .before .before .before .before .before .before .before .before .before .before .before .before .before .before .before .before .before .before .pre, c .before .before .before .before .before .before .before .before .before .before .before .before .before .before .before .put-bytes .ensures .next-is, c .before .before .before .before .before .before .before .before .before .before .before .before .before .before .before .put-bytes .kept .0, c .before .before .before .before .before .before .before .before .before .before .before .put-number .ensures .next-is, c .before .before .before .before .before .before .before .before .before .before .before .put-number .kept .0,
-    c .before .before .before .before .before .before .before .put-byte .ensures .next-is, c .before .before .before .before .before .before .before .put-byte .kept .0, c .before .before .before .put-signed .ensures .next-is, c .before .before .before .put-signed .kept .0, ap (λ (z : ℤ). length (signed z)) (toZ-ofZ w32 (c .before .before .before .before .before .before .before .before .before .before .before .before .before .before .before .before .before .before .before .args .detail) (c .before .before .before .before .before .before .before .before .before .before .before .before .before .before .before .before .before .before .before .fits .detail)))
+put-byte-requires-2 c κs =
+    omega (
+      arith,
+      answer-length (c .before .before .before .before .before .before .before .before .before .before .before .before .before .before .before .before .before .before .before .args .number) (c .before .before .before .before .before .before .before .before .before .before .before .before .before .before .before .before .before .before .before .args .detail),
+      c .before .before .before .before .before .before .before .before .before .before .before .before .before .before .before .before .before .before .before .pre,
+      c .before .before .before .before .before .before .before .before .before .before .before .before .before .before .before .put-bytes .ensures .next-is,
+      c .before .before .before .before .before .before .before .before .before .before .before .before .before .before .before .put-bytes .kept .0,
+      c .before .before .before .before .before .before .before .before .before .before .before .put-number .ensures .next-is,
+      c .before .before .before .before .before .before .before .before .before .before .before .put-number .kept .0,
+      c .before .before .before .before .before .before .before .put-byte .ensures .next-is,
+      c .before .before .before .before .before .before .before .put-byte .kept .0,
+      c .before .before .before .put-signed .ensures .next-is,
+      c .before .before .before .put-signed .kept .0,
+      ap (λ (z : ℤ). length (signed z)) (toZ-ofZ w32 (c .before .before .before .before .before .before .before .before .before .before .before .before .before .before .before .before .before .before .before .args .detail) (c .before .before .before .before .before .before .before .before .before .before .before .before .before .before .before .before .before .before .before .fits .detail)),
+    )
 
 same-length : tie.Need-same-length
 same-length c = search needs
 
 returns : tie.Need-returns
-returns c = 
+returns c =
     put-as
     (put-then
     (put-then (put-then (put-then (c .before .before .before .before .before .before .before .before .before .before .before .before .before .before .before .before .before .before .put-bytes .ensures) (c .before .before .before .before .before .before .before .before .before .before .before .before .before .before .put-number .ensures)) (c .before .before .before .before .before .before .before .before .before .before .put-byte .ensures))

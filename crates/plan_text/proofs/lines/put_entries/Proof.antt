@@ -31,7 +31,7 @@ same-length : tie.Need-same-length
 same-length c = search needs
 
 returns-2 : tie.Need-returns-2
-returns-2 c = 
+returns-2 c =
     put-as (put-then (c .before .before .before .before .before .before .put-number .ensures) (c .before .before .put-tail .ensures))
     (ap (λ (k : ℕ). digits k ++ joinedTail (drop 1 (c .before .before .before .before .before .before .before .before .before .before .before .before .before .args .row .now))) (c .before .before .before .before .before .before .before .wide .ensures) ∙ entries-are (c .before .before .before .before .before .before .before .before .before .before .before .before .before .args .row .now) (omega (arith, c .before .before .before .before .before .before .before .before .before .before .if1 .left)))
 

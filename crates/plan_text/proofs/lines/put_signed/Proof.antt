@@ -22,20 +22,26 @@ put-byte-requires : tie.Need-put-byte-requires
 put-byte-requires c κs = omega (arith, ap length (below-zero (c .before .before .before .before .args .n) (c .before .before .before .before .fits .n) (c .before .if1 .taken)), c .before .before .before .before .pre)
 
 put-number-requires : tie.Need-put-number-requires
-put-number-requires c κs = 
-    omega (arith, ap length (below-zero (c .before .before .before .before .before .before .before .before .args .n) (c .before .before .before .before .before .before .before .before .fits .n) (c .before .before .before .before .before .if1 .taken)), c .before .before .before .before .before .before .before .before .pre, c .before .before .before .put-byte .ensures .next-is, c .before .before .before .put-byte .kept .0,
-    ap (λ (k : ℕ). length (digits k)) (c .before .before .before .before .before .before .magnitude .ensures ∙ ap natAbs (toZ-ofZ w32 (c .before .before .before .before .before .before .before .before .args .n) (c .before .before .before .before .before .before .before .before .fits .n))))
+put-number-requires c κs =
+    omega (
+      arith,
+      ap length (below-zero (c .before .before .before .before .before .before .before .before .args .n) (c .before .before .before .before .before .before .before .before .fits .n) (c .before .before .before .before .before .if1 .taken)),
+      c .before .before .before .before .before .before .before .before .pre,
+      c .before .before .before .put-byte .ensures .next-is,
+      c .before .before .before .put-byte .kept .0,
+      ap (λ (k : ℕ). length (digits k)) (c .before .before .before .before .before .before .magnitude .ensures ∙ ap natAbs (toZ-ofZ w32 (c .before .before .before .before .before .before .before .before .args .n) (c .before .before .before .before .before .before .before .before .fits .n))),
+    )
 
 same-length : tie.Need-same-length
 same-length c = search needs
 
 returns : tie.Need-returns
-returns c = 
+returns c =
     put-as (put-then (c .before .before .before .before .before .before .put-byte .ensures) (c .before .before .put-number .ensures))
     (ap (λ (k : ℕ). minus ∷ digits k) (c .before .before .before .before .before .before .before .before .before .magnitude .ensures ∙ ap natAbs (toZ-ofZ w32 (c .before .before .before .before .before .before .before .before .before .before .before .args .n) (c .before .before .before .before .before .before .before .before .before .before .before .fits .n))) ∙ below-zero (c .before .before .before .before .before .before .before .before .before .before .before .args .n) (c .before .before .before .before .before .before .before .before .before .before .before .fits .n) (c .before .before .before .before .before .before .before .before .if1 .taken))
 
 put-number-requires-2 : tie.Need-put-number-requires-2
-put-number-requires-2 c κs = 
+put-number-requires-2 c κs =
     omega (arith, ap length (not-below (c .before .before .before .before .args .n) (c .before .before .before .before .fits .n) (c .before .if1 .left)), c .before .before .before .before .pre, ap (λ (k : ℕ). length (digits k)) (c .before .before .magnitude .ensures ∙ ap natAbs (toZ-ofZ w32 (c .before .before .before .before .args .n) (c .before .before .before .before .fits .n))))
 
 same-length-2 : tie.Need-same-length-2
