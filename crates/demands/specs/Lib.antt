@@ -3,4 +3,5 @@ pub mod Tables
 pub mod Builder
 pub mod PlanText
 pub mod Switch
+pub mod Cases
 pub mod OneOutcome

@@ -1,10 +1,13 @@
 -- No call has two different outcomes under its promise: whatever the arguments x, two results that the function's contract allows are equal.
--- `Learnt κ x a l` is the contract itself, as its source states it: with the arguments x the result may be a (κ and l, lifetimes and what lent memory holds after, do not matter here).
+-- `Learnt κ x a l` is the contract itself, as its source states it: with the arguments x the result may be a, and l what the lent memory holds after (κ, the lifetimes, do not matter).
+-- The builder's one free choice is in `Builder.antt`, and the forwarding functions, by value and lent, are in `Switch.antt`.
 use mathlib.Core.Path.{_≡_}
 use Rattle.margins.proofs.margin.Reads as margin
 use Rattle.margins.proofs.room.Reads as room
 use Rattle.margins.proofs.fit.Reads as fit
 use Rattle.margins.proofs.cells.Reads as cells
+use Rattle.plan_text.proofs.reading.read.Reads as read
+use Rattle.plan_text.proofs.writing.write.Reads as write
 use Rattle.tables.proofs.check.check.Reads as check
 use Rattle.tables.proofs.row.row_answer.Reads as row-answer
 use Rattle.tables.proofs.row.row.Reads as row
@@ -32,3 +35,11 @@ abbrev pub OneRow : Type 0
 OneRow =
     (κ : _) (x : _) (a b : _) (l m : _)
     → row.Learnt κ x a l → row.Learnt κ x b m → (a .now ≡ b .now) × ((a .ptr .0 ≡ b .ptr .0) × (a .ptr .1 ≡ b .ptr .1))
+
+-- of reading, the plan handed back and the lent list
+abbrev pub OneRead : Type 0
+OneRead = (κ : _) (x : _) (a b : _) (l m : _) → read.Learnt κ x a l → read.Learnt κ x b m → (a ≡ b) × (l .1 .0 .now ≡ m .1 .0 .now)
+
+-- of writing, the answer and the lent text
+abbrev pub OneWrite : Type 0
+OneWrite = (κ : _) (x : _) (a b : _) (l m : _) → write.Learnt κ x a l → write.Learnt κ x b m → (a ≡ b) × (l .1 .1 .1 .0 .now ≡ m .1 .1 .1 .0 .now)

@@ -1,0 +1,71 @@
+-- The starred cases: one test that is computed over the table, and one law that turns it into the claim of each row.
+use Prim.Native.Nat.{ℕ, zero, suc}
+use mathlib.Core.Path.{_≡_, refl, ap, _∙_, sym}
+use mathlib.Core.Bool.{Bool, true, false, _&&_}
+use mathlib.Core.List.{List, [], _∷_}
+use lib.Dec.{T, eqb, eqb→eq}
+use lib.IntN.{ℤ, pos, negsuc}
+use Rattle.answers.specs.declared.Answer.{Answer}
+use Rattle.answers.specs.Lowest.{lowest}
+use Rattle.answers.specs.Answers.{answer}
+use Rattle.flows.specs.Sums.{sum}
+use Rattle.flows.specs.Flows.{inputLoad, outputLoad}
+use Rattle.margins.specs.Margins.{leastTimes, marginAnswer, roomAnswer, fitAnswer}
+use Rattle.tables.specs.Accepted.{times}
+use Rattle.tables.specs.Check.{checkAnswer}
+use Rattle.builder.specs.Build.{buildAnswer}
+use Rattle.demands.specs.Cases.{Case, check, build, fit, margin, room, Claim, AllHold, cases, CasesHold}
+
+abbrev sameZ : ℤ → ℤ → Bool
+sameZ (pos a) (pos b) = eqb a b
+sameZ (pos a) (negsuc b) = false
+sameZ (negsuc a) (pos b) = false
+sameZ (negsuc a) (negsuc b) = eqb a b
+
+same-z : (x y : ℤ) → T (sameZ x y) → x ≡ y
+same-z (pos a) (pos b) t = ap pos (eqb→eq a b t)
+same-z (pos a) (negsuc b) t = absurd t
+same-z (negsuc a) (pos b) t = absurd t
+same-z (negsuc a) (negsuc b) t = ap negsuc (eqb→eq a b t)
+
+abbrev same : Answer → Answer → Bool
+same a b = eqb (a .number) (b .number) && sameZ (a .detail) (b .detail)
+
+first : (a b : Bool) → T (a && b) → T a
+first true b t = tt
+first false b t = t
+
+second : (a b : Bool) → T (a && b) → T b
+second true b t = t
+second false b t = absurd t
+
+same-answer : (a b : Answer) → T (same a b) → a ≡ b
+same-answer a b t =
+    ap (λ (n : ℕ). answer n (a .detail)) (eqb→eq (a .number) (b .number) (first (eqb (a .number) (b .number)) (sameZ (a .detail) (b .detail)) t))
+    ∙ ap (λ (z : ℤ). answer (b .number) z) (same-z (a .detail) (b .detail) (second (eqb (a .number) (b .number)) (sameZ (a .detail) (b .detail)) t))
+
+abbrev holds : Case → Bool
+holds (check M N L X a) = same (checkAnswer M N L X) a
+holds (build M N L a) = same (buildAnswer M N L 20) a
+holds (fit M P C a) = same (fitAnswer M P C) a
+holds (margin M h H a) = same (marginAnswer M h H) a
+holds (room M H a) = same (roomAnswer M H) a
+
+one : (c : Case) → T (holds c) → Claim c
+one (check M N L X a) t = same-answer (checkAnswer M N L X) a t
+one (build M N L a) t = same-answer (buildAnswer M N L 20) a t
+one (fit M P C a) t = same-answer (fitAnswer M P C) a t
+one (margin M h H a) t = same-answer (marginAnswer M h H) a t
+one (room M H a) t = same-answer (roomAnswer M H) a t
+
+abbrev all : List Case → Bool
+all [] = true
+all (c ∷ cs) = holds c && all cs
+
+each : (cs : List Case) → T (all cs) → AllHold cs
+each [] t = tt
+each (c ∷ cs) t = (one c (first (holds c) (all cs) t), each cs (second (holds c) (all cs) t))
+
+pub cases-hold : CasesHold
+unfolding checkAnswer buildAnswer marginAnswer roomAnswer fitAnswer leastTimes lowest sum times inputLoad outputLoad
+cases-hold = each cases tt

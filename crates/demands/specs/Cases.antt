@@ -1,0 +1,72 @@
+-- The starred cases of document 01, in one table.
+use Prim.Native.Nat.{ℕ}
+use mathlib.Core.Path.{_≡_}
+use mathlib.Core.List.{List, [], _∷_}
+use lib.IntN.{pos, negsuc}
+use Rattle.answers.specs.declared.Answer.{Answer}
+use Rattle.answers.specs.Numbers.{INPUT-OVERLOADED, OUTPUT-OVERLOADED, ENTRY-NOT-OF-ROW, INPUT-TWICE-IN-SLOT, COUNT-WRONG, PERIOD-OUT-OF-RANGE, PERIOD-DOES-NOT-FIT}
+use Rattle.answers.specs.Answers.{answer, refusal, doneWith}
+use Rattle.margins.specs.Margins.{marginAnswer, roomAnswer, fitAnswer}
+use Rattle.tables.specs.Check.{checkAnswer}
+use Rattle.builder.specs.Build.{buildAnswer}
+
+-- a call and the answer that document 01 gives for it
+pub data Case : Type 0 where
+  check : ℕ → ℕ → List ℕ → List ℕ → Answer → Case
+  build : ℕ → ℕ → List ℕ → Answer → Case
+  fit : ℕ → ℕ → ℕ → Answer → Case
+  margin : ℕ → ℕ → ℕ → Answer → Case
+  room : ℕ → ℕ → Answer → Case
+
+-- what a case claims: the call is answered so (a build is lent a table of 20 bytes, which all of these have room in)
+abbrev pub Claim : Case → Type 0
+Claim (check M N L T a) = checkAnswer M N L T ≡ a
+Claim (build M N L a) = buildAnswer M N L 20 ≡ a
+Claim (fit M P C a) = fitAnswer M P C ≡ a
+Claim (margin M h H a) = marginAnswer M h H ≡ a
+Claim (room M H a) = roomAnswer M H ≡ a
+
+-- every case of a list holds
+abbrev pub AllHold : List Case → Type 0
+AllHold [] = Unit {0}
+AllHold (c ∷ cs) = Claim c × AllHold cs
+
+-- plan A: frame 5, ports 4, flows (1,1,3), (1,2,2), (2,1,2)
+abbrev pub planA : List ℕ
+planA = 1 ∷ 1 ∷ 3 ∷ 1 ∷ 2 ∷ 2 ∷ 2 ∷ 1 ∷ 2 ∷ []
+
+-- rows 2, 3 and 4 of plan A's tables: 0 0 0 2 2, then zeros
+abbrev pub otherRows : List ℕ
+otherRows = 0 ∷ 0 ∷ 0 ∷ 2 ∷ 2 ∷ 0 ∷ 0 ∷ 0 ∷ 0 ∷ 0 ∷ 0 ∷ 0 ∷ 0 ∷ 0 ∷ 0 ∷ []
+
+abbrev pub cases : List Case
+cases =
+    -- plan A, row 1 as 1 1 1 3 3: accepted
+    check 5 4 planA (1 ∷ 1 ∷ 1 ∷ 3 ∷ 3 ∷ otherRows) (doneWith (pos 0))
+    -- as 3 3 1 1 1: input 1 twice in slot 3
+    ∷ check 5 4 planA (3 ∷ 3 ∷ 1 ∷ 1 ∷ 1 ∷ otherRows) (answer INPUT-TWICE-IN-SLOT (pos 3))
+    -- as 1 1 1 3 0: flow 3 stands once
+    ∷ check 5 4 planA (1 ∷ 1 ∷ 1 ∷ 3 ∷ 0 ∷ otherRows) (answer COUNT-WRONG (pos 3))
+    -- first byte 2: no flow of that row at place 0
+    ∷ check 5 4 planA (2 ∷ 1 ∷ 1 ∷ 3 ∷ 3 ∷ otherRows) (answer ENTRY-NOT-OF-ROW (pos 0))
+    -- plan A with flow 3 at 3 cells
+    ∷ build 5 4 (1 ∷ 1 ∷ 3 ∷ 1 ∷ 2 ∷ 2 ∷ 2 ∷ 1 ∷ 3 ∷ []) (answer OUTPUT-OVERLOADED (pos 1))
+    -- frame 1
+    ∷ build 1 2 (1 ∷ 1 ∷ 1 ∷ 1 ∷ 2 ∷ 1 ∷ []) (answer INPUT-OVERLOADED (pos 1))
+    ∷ build 1 2 (1 ∷ 1 ∷ 1 ∷ 2 ∷ 1 ∷ 1 ∷ []) (answer OUTPUT-OVERLOADED (pos 1))
+    -- frame 5
+    ∷ fit 5 11 3 (doneWith (pos 2))
+    ∷ fit 5 4 3 (refusal PERIOD-OUT-OF-RANGE)
+    ∷ fit 5 5 6 (refusal PERIOD-DOES-NOT-FIT)
+    -- frame 2000: the lost minus
+    ∷ margin 2000 0 1999 (doneWith (negsuc 0))
+    ∷ room 2000 1999 (doneWith (negsuc 0))
+    ∷ margin 2000 1 4001 (doneWith (pos 0))
+    ∷ room 2000 4001 (doneWith (pos 1))
+    ∷ margin 2000 1 4000 (doneWith (negsuc 0))
+    ∷ room 2000 4000 (doneWith (pos 0))
+    ∷ []
+
+-- "one proof over that table shows them of the definitions"
+abbrev pub CasesHold : Type 0
+CasesHold = AllHold cases
