@@ -2,7 +2,6 @@
 use Prim.Native.Nat.{ℕ, suc, _+_, _*_, _≤_, _<_}
 use mathlib.Core.Path.{_≡_, refl, sym, _∙_, ap, subst}
 use mathlib.Core.Bool.{Bool, cond}
-use mathlib.Core.Logic.{_↔_}
 use mathlib.Core.List.{List, [], _∷_, _++_}
 use native.Mathlib.Omega.{arith}
 use borrow.Author.Tests.{lt-ltb, le-ltb, ltb-false}
@@ -12,15 +11,15 @@ use lib.Dec.{ltb}
 use Rattle.answers.specs.declared.Answer.{Answer}
 use Rattle.answers.specs.Numbers.{DONE, INPUT-OVERLOADED, OUTPUT-OVERLOADED, TABLE-TOO-SHORT}
 use Rattle.answers.specs.Limits.{maxFrame, maxPorts}
-use Rattle.answers.specs.Answers.{Rule, answer, refusal, doneWith, first}
+use Rattle.answers.specs.Answers.{answer, refusal, doneWith, first}
 use Rattle.answers.specs.Lowest.{lowest}
-use Rattle.answers.proofs.Lowest.{somewhere-false, nowhere-test}
-use Rattle.answers.proofs.First.{NoneHolds, done-exactly, lowest-named, lowest-passed, refusal-passed-on, goes-on, none-of-them}
-use Rattle.flows.specs.Flows.{flowCount, inputLoad, outputLoad, InRange, listRules, listAnswer, inputOverloaded, outputOverloaded, Fitting}
-use Rattle.flows.proofs.Shape.{listed, in-range, not-due}
+use Rattle.answers.proofs.Lowest.{somewhere-false}
+use Rattle.answers.proofs.First.{NoneHolds, lowest-named, lowest-passed, refusal-passed-on, goes-on, none-of-them}
+use Rattle.flows.specs.Flows.{flowCount, listRules, listAnswer, inputOverloaded, outputOverloaded, Fitting}
+use Rattle.flows.proofs.Shape.{listed}
 use Rattle.tables.proofs.Places.{size-bound}
 use Rattle.builder.specs.InputMarks.{Marked}
-use Rattle.builder.specs.Build.{loadRules, loadAnswer, buildRules, buildAnswer, Built}
+use Rattle.builder.specs.Build.{loadRules, loadAnswer, buildAnswer, Built}
 use Rattle.builder.specs.Filling.{emptied, SoFar, MayFill, FilledTo}
 use Rattle.builder.proofs.Placing.{noMarks, no-mark}
 use Rattle.builder.proofs.Remarking.{marked-empty}
@@ -60,15 +59,6 @@ none-due M N L len none = (
     outputs-fit = λ j w. ltb-false _ _ (somewhere-false 1 N (outputOverloaded M L) (none .1 .0) j (w .at-least) (omega (arith, w .at-most)));
   },
   ltb-false len (N * M) (none .1 .1 .0),
-)
-
-loads-not-due : (M N : ℕ) (L : List ℕ) (len : ℕ) → Fitting M N L → N * M ≤ len → NoneHolds (loadRules M N L len)
-loads-not-due M N L len fit long = (
-  nowhere-test 1 N (inputOverloaded M L) (λ i l u. le-ltb M (inputLoad L i) (fit .inputs-fit i (record { at-least = l; at-most = omega arith }))),
-  (
-    nowhere-test 1 N (outputOverloaded M L) (λ j l u. le-ltb M (outputLoad L j) (fit .outputs-fit j (record { at-least = l; at-most = omega arith }))),
-    (le-ltb len (N * M) long, tt),
-  ),
 )
 
 loads-fit : (M N : ℕ) (L : List ℕ) (len : ℕ) (b : Answer) → b ≡ loadAnswer M N L len → b .number ≡ DONE → Fitting M N L × (N * M ≤ len)
@@ -129,29 +119,3 @@ module _ (M N : ℕ) (L T : List ℕ) (a : Answer) (e : a ≡ listAnswer M N L) 
             long-enough = omega (arith, size-bound h, length-replicate {A = ℕ} (maxPorts * maxFrame) 0);
           })
           (emptied-entries M N T) (λ r s. no-mark (maxPorts * maxFrame) (r * M + s)))
-
-none-of-both : (rs more : List Rule) → NoneHolds (rs ++ more) ↔ (NoneHolds rs × NoneHolds more)
-none-of-both [] more = (λ h. (tt, h), λ h. h .1)
-none-of-both (r ∷ rs) more =
-    let rest = none-of-both rs more in
-    (λ h. ((h .0, rest .0 (h .1) .0), rest .0 (h .1) .1), λ h. (h .0 .0, rest .1 (h .0 .1, h .1)))
-
--- the build is done exactly where frame, ports and list are in range, the loads fit and the table is long enough
-pub build-done-exactly : (M N : ℕ) (L : List ℕ) (len : ℕ) → ((buildAnswer M N L len) .number ≡ DONE) ↔ (InRange M N L × Fitting M N L × (N * M ≤ len))
-unfolding buildAnswer
-build-done-exactly M N L len = (out, back)
-  where
-    split : NoneHolds (buildRules M N L len) ↔ (NoneHolds (listRules M N L) × NoneHolds (loadRules M N L len))
-    split = none-of-both (listRules M N L) (loadRules M N L len)
-
-    exactly : ((first (buildRules M N L len) (doneWith (pos 0))) .number ≡ DONE) ↔ NoneHolds (buildRules M N L len)
-    exactly = done-exactly DONE (buildRules M N L len) (doneWith (pos 0)) refl tt
-
-    out : (first (buildRules M N L len) (doneWith (pos 0))) .number ≡ DONE → InRange M N L × Fitting M N L × (N * M ≤ len)
-    out e =
-        let none = split .0 (exactly .0 e) in
-        let fit = none-due M N L len (none .1) in
-        (in-range M N L (none .0), fit .0, fit .1)
-
-    back : InRange M N L × Fitting M N L × (N * M ≤ len) → (first (buildRules M N L len) (doneWith (pos 0))) .number ≡ DONE
-    back h = exactly .1 (split .1 (not-due M N L (h .0), loads-not-due M N L len (h .1) (h .2)))

@@ -107,14 +107,6 @@ more-digits n l f = sym (digits-more (n / 10) (n % 10) (omega arith) (omega arit
 pub digits-longer : (n : ℕ) → 10 ≤ n → n < 2 ^ 64 → length (digits n) ≡ length (digits (n / 10)) + 1
 digits-longer n l f = ap length (sym (more-digits n l f)) ∙ length-append (digits (n / 10)) ((48 + n % 10) ∷ [])
 
--- room for all leaves room for the first part, and after that for the second
-pub room-first : (at n : ℕ) (xs ys : List ℕ) → at + length (xs ++ ys) ≤ n → at + length xs ≤ n
-room-first at n xs ys h = omega (arith, length-append xs ys)
-
-pub room-next : {before after : List ℕ} {at next : ℕ} {xs : List ℕ} (ys : List ℕ) → Put before at xs after next → at + length (xs ++ ys) ≤ length before
-    → length after ≡ length before → next + length ys ≤ length after
-room-next {before} {after} {at} {next} {xs} ys p h e = omega (arith, p .next-is, length-append xs ys)
-
 -- bytes put at the very front lie over the buffer
 pub put-over : {before after : List ℕ} {next : ℕ} {bytes : List ℕ} → Put before 0 bytes after next → after ≡ over bytes before
 put-over {before} {after} {next} {bytes} p =
