@@ -1,0 +1,155 @@
+// The fixed sequence of numbers, and the choices made from it. Every choice takes the state and hands back the next one.
+ghost use Prim.Native.Nat.{_<_, _≤_};
+
+// The numbers at the edges of each range, and past them.
+pub const FRAMES: [usize; 10] = [0, 1, 2, 3, 5, 8, 60, 2000, 2001, 4000000000];
+
+pub const PORTS: [usize; 10] = [0, 1, 2, 3, 4, 8, 32, 33, 4000000000, 1];
+
+pub const DEADLINES: [usize; 10] = [
+    0,
+    1,
+    1999,
+    2000,
+    4000,
+    4001,
+    999999,
+    1000000,
+    1000001,
+    4000000000,
+];
+
+pub const LINKS: [usize; 10] = [0, 1, 2, 254, 255, 256, 4000000000, 3, 10, 100];
+
+pub const PERIODS: [usize; 10] = [0, 1, 4, 5, 11, 2000, 1999, 999999, 1000000, 1000001];
+
+pub const CELLS: [usize; 10] = [0, 1, 2, 3, 6, 2000, 2001, 65535, 65536, 4000000000];
+
+pub const BITS: [usize; 10] = [
+    0,
+    1,
+    499,
+    500,
+    501,
+    1000,
+    9999999,
+    10000000,
+    10000001,
+    4000000000,
+];
+
+pub const COUNTS: [usize; 10] = [0, 1, 2, 3, 5, 10, 100, 254, 255, 256];
+
+pub const OFFERS: [usize; 10] = [0, 1, 2, 5, 100, 3999, 4000, 4001, 40000, 65535];
+
+// What a choice hands back: the state after it, and what was chosen.
+pub struct Picked {
+    pub state: u64,
+    pub value: usize,
+}
+
+// The state after a state. The first remainder changes no state of the sequence: with it no state at all can make the product too large.
+fn next(state: u64) -> u64 {
+    state % 2147483647 * 48271 % 2147483647
+}
+
+// One of n numbers, from 0 on.
+pub fn pick(state: u64, n: usize) -> Picked
+    requires { ⌜ 0 < n ⌝ }
+    ensures { λ r. ⌜ r .value < n ⌝ }
+{
+    let after = next(state);
+    Picked {
+        state: after,
+        value: after as usize % n,
+    }
+}
+
+// One of n numbers, from 1 on.
+pub fn one_to(state: u64, n: usize) -> Picked
+    requires { ⌜ 0 < n ⌝ }
+    ensures { λ r. ⌜ (0 < r .value) × (r .value ≤ n) ⌝ }
+{
+    let p = pick(state, n);
+    Picked {
+        state: p.state,
+        value: p.value + 1,
+    }
+}
+
+// One of ten numbers at the edges.
+pub fn edge(state: u64, edges: &[usize; 10]) -> Picked {
+    let p = pick(state, 10);
+    let at = p.value;
+    Picked {
+        state: p.state,
+        value: edges[at],
+    }
+}
+
+// One time in four a number at the edges, else one of n numbers from 1 on.
+fn edge_or_one_to(state: u64, edges: &[usize; 10], n: usize) -> Picked
+    requires { ⌜ 0 < n ⌝ }
+{
+    let p = pick(state, 4);
+    if p.value == 0 {
+        return edge(p.state, edges);
+    }
+    one_to(p.state, n)
+}
+
+// A frame, mostly a small one that is in range.
+pub fn frame(state: u64) -> Picked {
+    edge_or_one_to(state, &FRAMES, 8)
+}
+
+// A number of ports, mostly a small one that is in range.
+pub fn ports(state: u64) -> Picked {
+    edge_or_one_to(state, &PORTS, 4)
+}
+
+// One time in so many some of a buffer's elements, else all of them.
+pub fn some_or_all(state: u64, times: usize, all: usize) -> Picked
+    requires { ⌜ (0 < times) × (all < 10000) ⌝ }
+{
+    let p = pick(state, times);
+    if p.value == 0 {
+        return pick(p.state, all + 1);
+    }
+    Picked {
+        state: p.state,
+        value: all,
+    }
+}
+
+// How many waiting counts are lent: one time in so many a number at the edges, else 10.
+pub fn counts_lent(state: u64, times: usize) -> Picked
+    requires { ⌜ 0 < times ⌝ }
+{
+    let p = pick(state, times);
+    if p.value == 0 {
+        return edge(p.state, &COUNTS);
+    }
+    Picked {
+        state: p.state,
+        value: 10,
+    }
+}
+
+// A whole list of up to eight flows.
+fn threes(state: u64) -> Picked {
+    let p = pick(state, 9);
+    Picked {
+        state: p.state,
+        value: 3 * p.value,
+    }
+}
+
+// How many numbers of the list are lent: one time in four any number of them, else whole flows.
+pub fn numbers_lent(state: u64) -> Picked {
+    let p = pick(state, 4);
+    if p.value == 0 {
+        return pick(p.state, 30);
+    }
+    threes(p.state)
+}
