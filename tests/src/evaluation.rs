@@ -15,8 +15,8 @@ const SLOTS: usize = FRAME as usize;
 const RANGES: [u32; 6] = [70, 75, 80, 85, 90, 95];
 /// A little over a thousand matrices a setting, as in document 000.
 const MATRICES: u64 = 170;
-/// Of these, the planner is run on so many: emulated, a large plan takes a second or two.
-const PLANNED: usize = 4;
+/// Of these, the planner is run on so many, a fifth: emulated, a large plan takes a second or two.
+const PLANNED: usize = 34;
 
 struct Setting {
     ports: usize,
