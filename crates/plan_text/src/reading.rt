@@ -17,6 +17,9 @@ use answers::MAX_TEXT;
 use answers::TEXT_NOT_OF_FORM;
 use answers::TEXT_TOO_LONG;
 
+// The largest number of 16 bits.
+const MAX_WORD: usize = 65535;
+
 // What reading hands back: its answer, beside frame and ports, both 0 on a refusal.
 pub struct Plan {
     pub answer: Answer,
@@ -41,10 +44,10 @@ fn wide(x: u16) -> usize
 fn in_word(n: usize) -> u16
     ensures { λ r. ⌜ r ≡ min n maxWord ⌝ }
 {
-    if n < 65535 {
+    if n < MAX_WORD {
         return n as u16;
     }
-    65535
+    MAX_WORD as u16
 }
 
 // Keeps the number that a byte ends, if it ends one; hands back how many are kept.
@@ -135,7 +138,7 @@ pub fn read(text: &[u8], list: &mut [u16]) -> Plan
     if MAX_TEXT < text.len() {
         return refused(answers::refusal(TEXT_TOO_LONG));
     }
-    let mut numbers = [0u16; 8192];
+    let mut numbers = [0u16; MAX_TEXT];
     let far = scan(text, &mut numbers);
     let reader = far.reader;
     let at = far.at;

@@ -15,6 +15,7 @@ use crate::keys::PORTS_KEY;
 use answers::Answer;
 use answers::BUFFER_TOO_SMALL;
 use answers::DONE;
+use answers::MAX_TEXT;
 
 // Puts one byte; hands back the place after it, as each of these functions does.
 pub fn put_byte(out: &mut [u8], at: usize, byte: u8) -> usize
@@ -126,7 +127,7 @@ pub fn write(frame: usize, ports: usize, list: &[u16], out: &mut [u8]) -> Answer
     if listed.number != DONE {
         return listed;
     }
-    let mut text = [0u8; 8192];
+    let mut text = [0u8; MAX_TEXT];
     let n = put_plan(frame, ports, list, &mut text);
     if out.len() < n {
         return answers::refusal(BUFFER_TOO_SMALL);
