@@ -41,6 +41,8 @@ module _ (text buffer : List ℕ) (room : length buffer ≡ listRoom) (p : Plan)
         accepted = λ x. absurd (h x);
         frame-is = λ x. absurd (h x);
         ports-is = λ x. absurd (h x);
+        refused-leaves = λ x. refl;
+        beyond = refl;
       }
 
   module _ (d : p .answer .number ≡ DONE) where
@@ -114,4 +116,8 @@ module _ (text buffer : List ℕ) (room : length buffer ≡ listRoom) (p : Plan)
               (subst (λ (q : List ℕ). Accepted (p .frame) (p .ports) q after) l (b .accepted x)));
           frame-is = λ x. frames;
           ports-is = λ x. ports;
+          refused-leaves = b .refused-leaves;
+          beyond =
+              subst (λ (m : ℕ). drop (portsIn text * m) after ≡ drop (portsIn text * m) table) frames
+              (subst (λ (n : ℕ). drop (n * p .frame) after ≡ drop (n * p .frame) table) ports (b .beyond));
         }

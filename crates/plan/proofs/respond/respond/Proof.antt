@@ -1,6 +1,6 @@
+-- `plan::respond::respond` meets its contract: what was read is what is built.
 use lib.Seq.{length-take-le}
 use mathlib.Core.Path.{sym}
--- `plan::respond::respond` meets its contract: what was read is what is built.
 use Rattle.plan.proofs.TextRead.{refuses, counted, room-for, list-is, builds}
 use Rattle.plan.specs.Responding.{listRoom}
 use lib.ListN.{replicate, length-replicate}
