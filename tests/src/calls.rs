@@ -1,6 +1,7 @@
 //! The fixed sequence of calls that the proved program makes too; the two outputs are compared.
 
 use crate::answer::{shown, Outcome, Refusal};
+use crate::flows::MOST_FRAME;
 use crate::forwarding::Running;
 use crate::{delays, forwarding, table, text};
 use std::fmt::Write;
@@ -9,12 +10,23 @@ const ROUNDS: u32 = 12_000;
 const SEED: u64 = 20_261_115;
 
 type Edges = [u32; 10];
-const FRAMES: Edges = [0, 1, 2, 3, 5, 8, 60, 2000, 2001, 4000000000];
+const FRAMES: Edges = [0, 1, 2, 3, 5, 8, 60, MOST_FRAME, MOST_FRAME + 1, 4000000000];
 const PORTS: Edges = [0, 1, 2, 3, 4, 8, 32, 33, 4000000000, 1];
-const DEADLINES: Edges = [0, 1, 1999, 2000, 4000, 4001, 999999, 1000000, 1000001, 4000000000];
+const DEADLINES: Edges = [
+    0,
+    1,
+    MOST_FRAME - 1,
+    MOST_FRAME,
+    2 * MOST_FRAME,
+    2 * MOST_FRAME + 1,
+    999999,
+    1000000,
+    1000001,
+    4000000000,
+];
 const LINKS: Edges = [0, 1, 2, 254, 255, 256, 4000000000, 3, 10, 100];
-const PERIODS: Edges = [0, 1, 4, 5, 11, 2000, 1999, 999999, 1000000, 1000001];
-const CELLS: Edges = [0, 1, 2, 3, 6, 2000, 2001, 65535, 65536, 4000000000];
+const PERIODS: Edges = [0, 1, 4, 5, 11, MOST_FRAME, MOST_FRAME - 1, 999999, 1000000, 1000001];
+const CELLS: Edges = [0, 1, 2, 3, 6, MOST_FRAME, MOST_FRAME + 1, 65535, 65536, 4000000000];
 const BITS: Edges = [0, 1, 499, 500, 501, 1000, 9999999, 10000000, 10000001, 4000000000];
 const COUNTS: Edges = [0, 1, 2, 3, 5, 10, 100, 254, 255, 256];
 const OFFERS: Edges = [0, 1, 2, 5, 100, 3999, 4000, 4001, 40000, 65535];

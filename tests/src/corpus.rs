@@ -1,7 +1,7 @@
 //! The texts that the planner is run over, by sections with fixed seeds.
 
 use crate::damage::{damage, NUMBERS};
-use crate::flows::Plan;
+use crate::flows::{Plan, MOST_FLOWS, MOST_FRAME, MOST_PORTS};
 use crate::plans::{feasible, full, funnel, mirrored, one_over, size, wild, Size};
 use crate::random::Random;
 use crate::text::text_of;
@@ -47,21 +47,24 @@ fn any_plan(random: &mut Random, size: Size) -> Plan {
 
 /// The three corners of the sizes, and full plans between; few, for their tables are large.
 fn large(random: &mut Random) -> Texts {
+    let most = size(MOST_FRAME, MOST_PORTS, MOST_FLOWS);
     let mut plans = vec![
-        full(random, size(2_000, 32, 255)),
-        feasible(random, size(2_000, 32, 255)),
-        one_over(random, size(2_000, 32, 255)),
-        wild(random, size(2_000, 32, 255)),
-        funnel(random, size(2_000, 32, 255), 2_000),
-        funnel(random, size(2_000, 32, 255), 2_001),
-        mirrored(funnel(random, size(2_000, 32, 255), 2_001)),
-        feasible(random, size(2_000, 32, 0)),
-        full(random, size(2_000, 1, 255)),
-        full(random, size(1, 32, 32)),
+        full(random, most),
+        feasible(random, most),
+        one_over(random, most),
+        wild(random, most),
+        funnel(random, most, MOST_FRAME),
+        funnel(random, most, MOST_FRAME + 1),
+        mirrored(funnel(random, most, MOST_FRAME + 1)),
+        feasible(random, size(MOST_FRAME, MOST_PORTS, 0)),
+        full(random, size(MOST_FRAME, 1, MOST_FLOWS)),
+        full(random, size(1, MOST_PORTS, MOST_PORTS)),
     ];
-    for (frame, ports) in [(2_000, 2), (2_000, 4), (2_000, 8), (500, 16), (200, 32), (100, 32)] {
-        plans.push(full(random, size(frame, ports, 255)));
-        plans.push(feasible(random, size(frame, ports, 255)));
+    for (frame, ports) in
+        [(MOST_FRAME, 2), (MOST_FRAME, 4), (MOST_FRAME, 8), (500, 16), (200, 32), (100, 32)]
+    {
+        plans.push(full(random, size(frame, ports, MOST_FLOWS)));
+        plans.push(feasible(random, size(frame, ports, MOST_FLOWS)));
     }
     plans.iter().map(text_of).collect()
 }
@@ -70,8 +73,8 @@ fn large(random: &mut Random) -> Texts {
 fn any_size(random: &mut Random, count: usize) -> Texts {
     (0..count)
         .map(|_| {
-            let (frame, ports) = (random.between(1, 2_000), random.between(1, 32));
-            let flows = random.between(0, 255);
+            let (frame, ports) = (random.between(1, MOST_FRAME), random.between(1, MOST_PORTS));
+            let flows = random.between(0, MOST_FLOWS);
             text_of(&any_plan(random, size(frame, ports, flows)))
         })
         .collect()
@@ -130,8 +133,8 @@ pub fn document_01() -> Texts {
         "frame=1\nports=2\nflow=1,1,1\nflow=1,2,1\n",
         "frame=1\nports=2\nflow=1,1,1\nflow=2,1,1\n",
         "frame=0\nports=0\n",
-        "frame=2000\nports=1\n",
-        "frame=2001\nports=1\n",
+        "frame=2048\nports=1\n",
+        "frame=2049\nports=1\n",
         "frame=05",
         "frame=123456",
         "frame=5\r\nports=4\r\n",
@@ -154,7 +157,7 @@ pub fn limits() -> Texts {
             format!("frame=3\nports={n}\nflow=1,1,1\n"),
             format!("frame=3\nports=32\nflow=1,1,1\nflow={n},2,1\n"),
             format!("frame=3\nports=32\nflow=1,1,1\nflow=2,{n},1\n"),
-            format!("frame=2000\nports=2\nflow=2,2,1\nflow=1,1,{n}\n"),
+            format!("frame={MOST_FRAME}\nports=2\nflow=2,2,1\nflow=1,1,{n}\n"),
             format!("frame={n}\nports={n}\nflow={n},{n},{n}\n"),
         ]
     };
@@ -170,7 +173,7 @@ fn flow_counts() -> Texts {
         texts.push(text("frame=255\nports=1\n", "flow=1,1,1\n", flows));
         texts.push(text("frame=254\nports=2\n", "flow=1,2,1\n", flows));
         texts.push(text("frame=9\nports=2\n", "flow=3,1,1\n", flows));
-        texts.push(text("frame=2001\nports=2\n", "flow=3,1,1\n", flows));
+        texts.push(text("frame=2049\nports=2\n", "flow=3,1,1\n", flows));
         texts.push(text("frame=9\nports=33\n", "flow=0,1,1\n", flows));
         texts.push(text("frame=9\nports=2\n", "flow=65537,65537,65537\n", flows));
     }

@@ -54,13 +54,13 @@ mod tests {
 
     #[test]
     fn margins_reach_both_ends_of_their_range() {
-        assert_eq!(margin(2_000, 255, 0), Ok(-512_255));
+        assert_eq!(margin(2_048, 255, 0), Ok(-524_543));
         assert_eq!(margin(1, 0, 1_000_000), Ok(999_999));
     }
 
     #[test]
     fn margin_is_at_least_zero_exactly_up_to_the_room() {
-        for frame in [1, 2, 5, 60, 1_999, 2_000] {
+        for frame in [1, 2, 5, 60, 2_047, 2_048] {
             for deadline in (0..30_000).step_by(37) {
                 let room = room(frame, deadline).unwrap();
                 for links in 0..=255 {
@@ -76,8 +76,8 @@ mod tests {
         assert_eq!(margin(0, 256, 1_000_001), Err(no(1)));
         assert_eq!(margin(1, 256, 1_000_001), Err(no(15)));
         assert_eq!(margin(1, 255, 1_000_001), Err(no(16)));
-        assert_eq!(room(2_001, 1_000_001), Err(no(1)));
-        assert_eq!(room(2_000, 1_000_001), Err(no(16)));
+        assert_eq!(room(2_049, 1_000_001), Err(no(1)));
+        assert_eq!(room(2_048, 1_000_001), Err(no(16)));
     }
 
     #[test]
@@ -91,7 +91,7 @@ mod tests {
 
     #[test]
     fn a_fit_is_the_least_that_serves() {
-        for (frame, period) in [(1, 7), (5, 11), (8, 8), (8, 100), (2_000, 1_000_000)] {
+        for (frame, period) in [(1, 7), (5, 11), (8, 8), (8, 100), (2_048, 1_000_000)] {
             for cells in 1..300 {
                 let Ok(least) = fit(frame, period, cells) else {
                     continue;

@@ -29,8 +29,8 @@ const SETTINGS: [Setting; 5] = [
     Setting { ports: 16, pairs: Pairs::All, seed: 802 },
     Setting { ports: 32, pairs: Pairs::All, seed: 803 },
     // A plan has at most 255 flows, so at most 255 pairs: what the planner can be asked.
-    Setting { ports: 16, pairs: Pairs::Some(MOST_FLOWS), seed: 804 },
-    Setting { ports: 32, pairs: Pairs::Some(MOST_FLOWS), seed: 805 },
+    Setting { ports: 16, pairs: Pairs::Some(MOST_FLOWS as usize), seed: 804 },
+    Setting { ports: 32, pairs: Pairs::Some(MOST_FLOWS as usize), seed: 805 },
 ];
 
 /// Of some matrices: how many each method schedules, and the planner of those it was run on.
@@ -113,7 +113,7 @@ fn plan_of(demand: &Demand) -> Option<Plan> {
         flows.extend(used.map(|(output, &cells)| flow(input, output, cells)));
     }
     let ports = demand.len() as u32;
-    (flows.len() <= MOST_FLOWS).then_some(Plan { frame: FRAME, ports, flows })
+    (flows.len() <= MOST_FLOWS as usize).then_some(Plan { frame: FRAME, ports, flows })
 }
 
 /// True if the planner's answer for the text is an accepted table.

@@ -2,9 +2,9 @@
 
 use crate::answer::{no, no_at, refuse_if, Refusal};
 
-pub const MOST_FRAME: u32 = 2_000;
+pub const MOST_FRAME: u32 = 2_048;
 pub const MOST_PORTS: u32 = 32;
-pub const MOST_FLOWS: usize = 255;
+pub const MOST_FLOWS: u32 = 255;
 
 /// Wider than the list's 16 bits: a text may name 99999, which must not wrap into range.
 #[derive(Clone, Copy, PartialEq, Eq, Debug)]
@@ -38,7 +38,7 @@ pub fn sizes_fit(frame: u32, ports: u32) -> Result<(), Refusal> {
 /// Refusal 3.
 fn flows_of(list: &[u16]) -> Result<Vec<Flow>, Refusal> {
     let threes = list.chunks_exact(3);
-    if !threes.remainder().is_empty() || threes.len() > MOST_FLOWS {
+    if !threes.remainder().is_empty() || threes.len() > MOST_FLOWS as usize {
         return Err(no(3));
     }
     let wide = |f: &[u16]| flow(f[0].into(), f[1].into(), f[2].into());
@@ -95,10 +95,10 @@ mod tests {
     #[test]
     fn frame_is_asked_before_ports() {
         assert_eq!(sizes_fit(0, 0), Err(no(1)));
-        assert_eq!(sizes_fit(2_001, 4), Err(no(1)));
-        assert_eq!(sizes_fit(2_000, 33), Err(no(2)));
-        assert_eq!(sizes_fit(2_000, 0), Err(no(2)));
-        assert_eq!(sizes_fit(2_000, 32), Ok(()));
+        assert_eq!(sizes_fit(2_049, 4), Err(no(1)));
+        assert_eq!(sizes_fit(2_048, 33), Err(no(2)));
+        assert_eq!(sizes_fit(2_048, 0), Err(no(2)));
+        assert_eq!(sizes_fit(2_048, 32), Ok(()));
     }
 
     #[test]

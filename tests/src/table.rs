@@ -87,7 +87,7 @@ mod tests {
 
     #[test]
     fn an_all_zero_table_is_accepted_for_the_empty_list_alone() {
-        assert_eq!(check(2_000, 32, &[], &[0; 64_000]), Ok(0));
+        assert_eq!(check(2_048, 32, &[], &[0; 65_536]), Ok(0));
         assert_eq!(check(5, 4, &LIST_A, &[0; 20]), Err(no_at(10, 1)));
     }
 

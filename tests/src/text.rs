@@ -86,7 +86,7 @@ pub fn plan_of(text: &[u8]) -> Result<Plan, Refusal> {
     }
     let plan = form_of(text)?;
     sizes_fit(plan.frame, plan.ports)?;
-    if plan.flows.len() > MOST_FLOWS {
+    if plan.flows.len() > MOST_FLOWS as usize {
         return Err(no(3));
     }
     ranges_fit(plan.frame, plan.ports, &plan.flows)?;

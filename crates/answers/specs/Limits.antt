@@ -5,7 +5,7 @@ use lib.Dec.{ltb}
 
 -- frame M, in slots: 1 to this
 abbrev pub maxFrame : ℕ
-maxFrame = 2000
+maxFrame = 2048
 
 -- ports N: 1 to this
 abbrev pub maxPorts : ℕ

@@ -60,7 +60,7 @@ pub const OUTPUT_OUT_OF_RANGE: u32 = 22;
 
 pub const BITS_OUT_OF_RANGE: u32 = 23;
 
-pub const MAX_FRAME: usize = 2000;
+pub const MAX_FRAME: usize = 2048;
 
 pub const MAX_PORTS: usize = 32;
 

@@ -1,18 +1,19 @@
 // The fixed sequence of numbers, and the choices made from it. Every choice takes the state and hands back the next one.
+use answers::MAX_FRAME;
 ghost use Prim.Native.Nat.{_<_, _≤_};
 
 // The numbers at the edges of each range, and past them.
-pub const FRAMES: [usize; 10] = [0, 1, 2, 3, 5, 8, 60, 2000, 2001, 4000000000];
+pub const FRAMES: [usize; 10] = [0, 1, 2, 3, 5, 8, 60, MAX_FRAME, MAX_FRAME + 1, 4000000000];
 
 pub const PORTS: [usize; 10] = [0, 1, 2, 3, 4, 8, 32, 33, 4000000000, 1];
 
 pub const DEADLINES: [usize; 10] = [
     0,
     1,
-    1999,
-    2000,
-    4000,
-    4001,
+    MAX_FRAME - 1,
+    MAX_FRAME,
+    2 * MAX_FRAME,
+    2 * MAX_FRAME + 1,
     999999,
     1000000,
     1000001,
@@ -21,9 +22,31 @@ pub const DEADLINES: [usize; 10] = [
 
 pub const LINKS: [usize; 10] = [0, 1, 2, 254, 255, 256, 4000000000, 3, 10, 100];
 
-pub const PERIODS: [usize; 10] = [0, 1, 4, 5, 11, 2000, 1999, 999999, 1000000, 1000001];
+pub const PERIODS: [usize; 10] = [
+    0,
+    1,
+    4,
+    5,
+    11,
+    MAX_FRAME,
+    MAX_FRAME - 1,
+    999999,
+    1000000,
+    1000001,
+];
 
-pub const CELLS: [usize; 10] = [0, 1, 2, 3, 6, 2000, 2001, 65535, 65536, 4000000000];
+pub const CELLS: [usize; 10] = [
+    0,
+    1,
+    2,
+    3,
+    6,
+    MAX_FRAME,
+    MAX_FRAME + 1,
+    65535,
+    65536,
+    4000000000,
+];
 
 pub const BITS: [usize; 10] = [
     0,

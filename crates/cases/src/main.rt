@@ -1,5 +1,7 @@
-// Runs the cases of document 01 that are not proved of the definitions, and prints a line for each: what was asked, number, comma, detail.
+// Runs cases of the documents: those that are not proved of the definitions, and the limit of the frame. Prints a line for each: what was asked, number, comma, detail.
 use answers::Answer;
+use answers::MAX_FRAME;
+use answers::MAX_PORTS;
 use libc::STDOUT_FILENO;
 
 fn print_detail(detail: i32) {
@@ -32,8 +34,23 @@ fn frames_at_their_limits() {
         tables::check::check(0, 0, &list, &table),
     );
     print_answer(b"margin in frame 0", margins::margin(0, 0, 0));
-    print_answer(b"margin in frame 2000", margins::margin(2000, 0, 1999));
-    print_answer(b"margin in frame 2001", margins::margin(2001, 0, 1999));
+    print_answer(b"margin in frame 2048", margins::margin(2048, 0, 2047));
+    print_answer(b"margin in frame 2049", margins::margin(2049, 0, 2047));
+}
+
+// A whole table of 65,536 bytes, whose one flow stands in the first slot.
+fn tables_at_their_limits() {
+    let list = [1u16; 3];
+    let mut table = [0u8; MAX_PORTS * MAX_FRAME];
+    table[0] = 1;
+    print_answer(
+        b"check of 32 rows in frame 2048",
+        tables::check::check(2048, 32, &list, &table),
+    );
+    print_answer(
+        b"check of 32 rows in frame 2049",
+        tables::check::check(2049, 32, &list, &table),
+    );
 }
 
 fn offers_at_the_limit() {
@@ -49,5 +66,6 @@ fn offers_at_the_limit() {
 fn main() {
     cells_of_messages();
     frames_at_their_limits();
+    tables_at_their_limits();
     offers_at_the_limit();
 }

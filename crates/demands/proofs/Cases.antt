@@ -1,5 +1,5 @@
--- The starred cases: one test that is computed over the table, and one law that turns it into the claim of each row.
-use Prim.Native.Nat.{ℕ, zero, suc}
+-- The cases: one test that is computed over the table, and one law that turns it into the claim of each row.
+use Prim.Native.Nat.{ℕ, zero, suc, _*_}
 use mathlib.Core.Path.{_≡_, refl, ap, _∙_, sym}
 use mathlib.Core.Bool.{Bool, true, false, _&&_}
 use mathlib.Core.List.{List, [], _∷_}
@@ -46,14 +46,14 @@ same-answer a b t =
 
 abbrev holds : Case → Bool
 holds (check M N L X a) = same (checkAnswer M N L X) a
-holds (build M N L a) = same (buildAnswer M N L 20) a
+holds (build M N L a) = same (buildAnswer M N L (N * M)) a
 holds (fit M P C a) = same (fitAnswer M P C) a
 holds (margin M h H a) = same (marginAnswer M h H) a
 holds (room M H a) = same (roomAnswer M H) a
 
 one : (c : Case) → T (holds c) → Claim c
 one (check M N L X a) t = same-answer (checkAnswer M N L X) a t
-one (build M N L a) t = same-answer (buildAnswer M N L 20) a t
+one (build M N L a) t = same-answer (buildAnswer M N L (N * M)) a t
 one (fit M P C a) t = same-answer (fitAnswer M P C) a t
 one (margin M h H a) t = same-answer (marginAnswer M h H) a t
 one (room M H a) t = same-answer (roomAnswer M H) a t

@@ -128,10 +128,10 @@ margin-in-range M h H m e = subst (λ (z : ℤ). (lowestMargin ≤ℤ z) × (z �
     go : Less H (bound M h) → (lowestMargin ≤ℤ marginOf M h H) × (marginOf M h H ≤ℤ highestMargin)
     go (inl late) =
         subst (λ (z : ℤ). (lowestMargin ≤ℤ z) × (z ≤ℤ highestMargin)) (sym (late .1))
-        (record { le = le→leb (bound M h - suc H) 512254 (omega (arith, most, frames)) }, record { le = tt })
+        (record { le = le→leb (bound M h - suc H) _ (omega (arith, most, frames)) }, record { le = tt })
     go (inr early) =
         subst (λ (z : ℤ). (lowestMargin ≤ℤ z) × (z ≤ℤ highestMargin)) (sym (early .1))
-        (record { le = tt }, record { le = le→leb (H - bound M h) 999999 (omega (arith, frames, deadlines)) })
+        (record { le = tt }, record { le = le→leb (H - bound M h) _ (omega (arith, frames, deadlines)) })
 
 pub margin-ends-reached : MarginEndsReached
 unfolding marginAnswer

@@ -1,16 +1,16 @@
--- The starred cases of document 01, in one table.
-use Prim.Native.Nat.{ℕ}
+-- The starred cases of document 01, and the cases of the frame's limit, in one table.
+use Prim.Native.Nat.{ℕ, _*_}
 use mathlib.Core.Path.{_≡_}
 use mathlib.Core.List.{List, [], _∷_}
 use lib.IntN.{pos, negsuc}
 use Rattle.answers.specs.declared.Answer.{Answer}
-use Rattle.answers.specs.Numbers.{INPUT-OVERLOADED, OUTPUT-OVERLOADED, ENTRY-NOT-OF-ROW, INPUT-TWICE-IN-SLOT, COUNT-WRONG, PERIOD-OUT-OF-RANGE, PERIOD-DOES-NOT-FIT}
+use Rattle.answers.specs.Numbers.{FRAME-OUT-OF-RANGE, INPUT-OVERLOADED, OUTPUT-OVERLOADED, ENTRY-NOT-OF-ROW, INPUT-TWICE-IN-SLOT, COUNT-WRONG, PERIOD-OUT-OF-RANGE, PERIOD-DOES-NOT-FIT}
 use Rattle.answers.specs.Answers.{answer, refusal, doneWith}
 use Rattle.margins.specs.Margins.{marginAnswer, roomAnswer, fitAnswer}
 use Rattle.tables.specs.Check.{checkAnswer}
 use Rattle.builder.specs.Build.{buildAnswer}
 
--- a call and the answer that document 01 gives for it
+-- a call and the answer that the documents give for it
 pub data Case : Type 0 where
   check : ℕ → ℕ → List ℕ → List ℕ → Answer → Case
   build : ℕ → ℕ → List ℕ → Answer → Case
@@ -18,10 +18,10 @@ pub data Case : Type 0 where
   margin : ℕ → ℕ → ℕ → Answer → Case
   room : ℕ → ℕ → Answer → Case
 
--- what a case claims: the call is answered so (a build is lent a table of 20 bytes, which all of these have room in)
+-- what a case claims: the call is answered so (a build is lent the N·M bytes of its table)
 abbrev pub Claim : Case → Type 0
 Claim (check M N L T a) = checkAnswer M N L T ≡ a
-Claim (build M N L a) = buildAnswer M N L 20 ≡ a
+Claim (build M N L a) = buildAnswer M N L (N * M) ≡ a
 Claim (fit M P C a) = fitAnswer M P C ≡ a
 Claim (margin M h H a) = marginAnswer M h H ≡ a
 Claim (room M H a) = roomAnswer M H ≡ a
@@ -65,6 +65,17 @@ cases =
     ∷ room 2000 4001 (doneWith (pos 1))
     ∷ margin 2000 1 4000 (doneWith (negsuc 0))
     ∷ room 2000 4000 (doneWith (pos 0))
+    -- frame 2,048: done
+    ∷ margin 2048 0 2047 (doneWith (negsuc 0))
+    ∷ room 2048 2048 (doneWith (pos 0))
+    ∷ fit 2048 2048 2048 (doneWith (pos 2048))
+    ∷ build 2048 32 (1 ∷ 32 ∷ 2048 ∷ []) (doneWith (pos 0))
+    -- frame 2,049: refused
+    ∷ margin 2049 0 2047 (refusal FRAME-OUT-OF-RANGE)
+    ∷ room 2049 2048 (refusal FRAME-OUT-OF-RANGE)
+    ∷ fit 2049 2049 2048 (refusal FRAME-OUT-OF-RANGE)
+    ∷ build 2049 32 (1 ∷ 32 ∷ 2048 ∷ []) (refusal FRAME-OUT-OF-RANGE)
+    ∷ check 2049 1 [] [] (refusal FRAME-OUT-OF-RANGE)
     ∷ []
 
 -- "one proof over that table shows them of the definitions"

@@ -5,6 +5,7 @@ use mathlib.Core.Logic.{_↔_}
 use lib.IntN.{ℤ, pos, negsuc, sucℤ, _-ℤ_, _*ℤ_}
 use lib.Signed.{_≤ℤ_, _<ℤ_}
 use Rattle.answers.specs.Numbers.{DONE}
+use Rattle.answers.specs.Limits.{maxFrame, maxLinks, maxDeadline}
 use Rattle.answers.specs.Answers.{doneWith}
 use Rattle.margins.specs.Margins.{marginOf, roomOf, floorDiv, cellBits, marginAnswer, roomAnswer, fitAnswer, cellsAnswer}
 
@@ -20,19 +21,20 @@ pub record RoundedDown (z : ℤ) (d : ℕ) (q : ℤ) : Type 0 where
 abbrev pub RoomRoundsDown : Type 0
 RoomRoundsDown = (M H : ℕ) → RoundedDown (pos H -ℤ pos M) (M + 1) (roomOf M H)
 
--- "Range -512,255 to 999,999."
+-- The range, -524,543 to 999,999: the ends are the documents' own numbers, and MarginEndsReached holds them to the limits.
 abbrev pub lowestMargin : ℤ
-lowestMargin = negsuc 512254
+lowestMargin = negsuc 524542
 
 abbrev pub highestMargin : ℤ
 highestMargin = pos 999999
 
--- every margin answered lies in the range, and both ends are reached
+-- every margin answered lies in the range
 abbrev pub MarginInRange : Type 0
 MarginInRange = (M h H : ℕ) (m : ℤ) → marginAnswer M h H ≡ doneWith m → (lowestMargin ≤ℤ m) × (m ≤ℤ highestMargin)
 
+-- both ends are reached: the longest frame over the most links for a deadline of 0, and the shortest over none for the latest
 abbrev pub MarginEndsReached : Type 0
-MarginEndsReached = (marginAnswer 2000 255 0 ≡ doneWith lowestMargin) × (marginAnswer 1 0 1000000 ≡ doneWith highestMargin)
+MarginEndsReached = (marginAnswer maxFrame maxLinks 0 ≡ doneWith lowestMargin) × (marginAnswer 1 0 maxDeadline ≡ doneWith highestMargin)
 
 -- "the least c with c·(P/M rounded down) at least C"
 pub record LeastTimes (d n c : ℕ) : Type 0 where
