@@ -224,6 +224,15 @@ mod tests {
         }
     }
 
+    #[test]
+    fn the_first_large_plan_uses_every_byte_of_the_largest_table() {
+        let texts = large(&mut Random::new(1));
+        let plan = plan_of(&texts[0]).unwrap();
+        assert_eq!((plan.frame, plan.ports, plan.flows.len()), (2_048, 32, 255));
+        assert_eq!(plan.flows.iter().map(|flow| flow.cells).sum::<u32>(), 65_536);
+        assert!(wanted(&texts[0]).is_ok());
+    }
+
     /// Texts that all get the same answer would compare little.
     #[test]
     fn every_answer_of_the_planner_is_wanted_often() {

@@ -1,4 +1,5 @@
-//! Tests from outside: an independent reading of document 01 that shares nothing with crates/.
+//! Tests from outside: an independent reading of document 01, as document 02 amends it, that
+//! shares nothing with crates/.
 
 mod answer;
 mod builder;
