@@ -168,12 +168,13 @@ fn flow_counts() -> Texts {
     let text = |sizes: &str, line: &str, flows: usize| {
         [sizes.as_bytes(), &line.as_bytes().repeat(flows)].concat()
     };
+    let too_long = format!("frame={}\nports=2\n", MOST_FRAME + 1);
     let mut texts = Texts::new();
     for flows in [1, 2, 253, 254, 255, 256, 257, 511, 512, 700, 743] {
         texts.push(text("frame=255\nports=1\n", "flow=1,1,1\n", flows));
         texts.push(text("frame=254\nports=2\n", "flow=1,2,1\n", flows));
         texts.push(text("frame=9\nports=2\n", "flow=3,1,1\n", flows));
-        texts.push(text("frame=2049\nports=2\n", "flow=3,1,1\n", flows));
+        texts.push(text(&too_long, "flow=3,1,1\n", flows));
         texts.push(text("frame=9\nports=33\n", "flow=0,1,1\n", flows));
         texts.push(text("frame=9\nports=2\n", "flow=65537,65537,65537\n", flows));
     }
