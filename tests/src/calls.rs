@@ -1,6 +1,7 @@
 //! The fixed sequence of calls that the proved program makes too; the two outputs are compared.
 
 use crate::answer::{shown, Outcome, Refusal};
+use crate::delays::CARRIED_BITS;
 use crate::flows::MOST_FRAME;
 use crate::forwarding::Running;
 use crate::{delays, forwarding, table, text};
@@ -27,7 +28,18 @@ const DEADLINES: Edges = [
 const LINKS: Edges = [0, 1, 2, 254, 255, 256, 4000000000, 3, 10, 100];
 const PERIODS: Edges = [0, 1, 4, 5, 11, MOST_FRAME, MOST_FRAME - 1, 999999, 1000000, 1000001];
 const CELLS: Edges = [0, 1, 2, 3, 6, MOST_FRAME, MOST_FRAME + 1, 65535, 65536, 4000000000];
-const BITS: Edges = [0, 1, 499, 500, 501, 1000, 9999999, 10000000, 10000001, 4000000000];
+const BITS: Edges = [
+    0,
+    1,
+    CARRIED_BITS - 1,
+    CARRIED_BITS,
+    CARRIED_BITS + 1,
+    1000,
+    9999999,
+    10000000,
+    10000001,
+    4000000000,
+];
 const COUNTS: Edges = [0, 1, 2, 3, 5, 10, 100, 254, 255, 256];
 const OFFERS: Edges = [0, 1, 2, 5, 100, 3999, 4000, 4001, 40000, 65535];
 

@@ -8,6 +8,9 @@ const MOST_DEADLINE: u32 = 1_000_000;
 const MOST_PERIOD: u32 = 1_000_000;
 const MOST_BITS: u32 = 10_000_000;
 const CELL_BITS: u32 = 500;
+const LABEL_BITS: u32 = 20;
+/// What the flow label leaves of a cell for the message.
+pub const CARRIED_BITS: u32 = CELL_BITS - LABEL_BITS;
 
 pub fn margin(frame: u32, links: u32, deadline: u32) -> Outcome {
     frame_fits(frame)?;
@@ -37,7 +40,7 @@ pub fn fit(frame: u32, period: u32, cells: u32) -> Outcome {
 
 pub fn cells_of_message(bits: u32) -> Outcome {
     refuse_if(!(1..=MOST_BITS).contains(&bits), 23)?;
-    Ok(i64::from(bits.div_ceil(CELL_BITS)))
+    Ok(i64::from(bits.div_ceil(CARRIED_BITS)))
 }
 
 #[cfg(test)]
@@ -103,10 +106,26 @@ mod tests {
     }
 
     #[test]
-    fn document_01_cells_of_a_message() {
-        assert_eq!([500, 501, 1_000].map(cells_of_message), [Ok(1), Ok(2), Ok(2)]);
+    fn document_02_cells_of_a_message() {
+        assert_eq!([480, 481, 1_000].map(cells_of_message), [Ok(1), Ok(2), Ok(3)]);
         assert_eq!(cells_of_message(0), Err(no(23)));
-        assert_eq!(cells_of_message(10_000_000), Ok(20_000));
+        assert_eq!(cells_of_message(10_000_000), Ok(20_834));
         assert_eq!(cells_of_message(10_000_001), Err(no(23)));
+    }
+
+    #[test]
+    fn cells_are_the_fewest_that_carry_the_message() {
+        for bits in (1..=5_000).chain(9_999_000..=10_000_000) {
+            let fewest = cells_of_message(bits).unwrap();
+            let carried = |cells: i64| cells * 500 - cells * 20 >= i64::from(bits);
+            assert!(carried(fewest) && !carried(fewest - 1));
+        }
+    }
+
+    /// Document 000's largest sensing message, 5 kbit every 10 frames: 10 cells without labels.
+    #[test]
+    fn with_the_label_a_large_sensing_message_takes_two_cells_a_frame() {
+        assert_eq!(cells_of_message(5_000), Ok(11));
+        assert_eq!((fit(2_000, 20_000, 10), fit(2_000, 20_000, 11)), (Ok(1), Ok(2)));
     }
 }

@@ -2,10 +2,12 @@
 //! past a port's capacity, until the switch has the wanted utilisation.
 
 use crate::builder::Demand;
-use crate::delays::{cells_of_message, fit};
+use crate::delays::fit;
 use crate::random::Random;
 
-/// 1 ms at 1 Gbps in cells of 500 bits.
+/// Document 000's cells. They carry no label: every bit is the message's.
+const CELL_BITS: u32 = 500;
+/// 1 ms at 1 Gbps in these cells.
 pub const FRAME: u32 = 2_000;
 
 /// Which pairs of ports may have flows.
@@ -21,8 +23,7 @@ pub enum Pairs {
 fn flow_cells(random: &mut Random) -> u32 {
     let (least, most, periods) = random.pick(&[(1_000, 5_000, 10), (120_000, 240_000, 30)]);
     let bits = random.between(least, most);
-    let message = cells_of_message(bits).expect("the bits are in range") as u32;
-    fit(FRAME, periods * FRAME, message).expect("the flow fits a frame") as u32
+    fit(FRAME, periods * FRAME, bits.div_ceil(CELL_BITS)).expect("the flow fits a frame") as u32
 }
 
 /// The pairs in the order of random permutations, so that a beginning of it is even.

@@ -1,5 +1,6 @@
 // The fixed sequence of numbers, and the choices made from it. Every choice takes the state and hands back the next one.
 use answers::MAX_FRAME;
+use margins::CARRIED_BITS;
 ghost use Prim.Native.Nat.{_<_, _≤_};
 
 // The numbers at the edges of each range, and past them.
@@ -51,9 +52,9 @@ pub const CELLS: [usize; 10] = [
 pub const BITS: [usize; 10] = [
     0,
     1,
-    499,
-    500,
-    501,
+    CARRIED_BITS - 1,
+    CARRIED_BITS,
+    CARRIED_BITS + 1,
     1000,
     9999999,
     10000000,

@@ -21,8 +21,8 @@ fn print_answer(case: &[u8], a: Answer) {
 }
 
 fn cells_of_messages() {
-    print_answer(b"cells of 500 bits", margins::cells(500));
-    print_answer(b"cells of 501 bits", margins::cells(501));
+    print_answer(b"cells of 480 bits", margins::cells(480));
+    print_answer(b"cells of 481 bits", margins::cells(481));
     print_answer(b"cells of 1000 bits", margins::cells(1000));
 }
 

@@ -10,11 +10,11 @@ use Rattle.answers.specs.Lowest.{lowest}
 use Rattle.answers.specs.Answers.{answer}
 use Rattle.flows.specs.Sums.{sum}
 use Rattle.flows.specs.Flows.{inputLoad, outputLoad}
-use Rattle.margins.specs.Margins.{leastTimes, marginAnswer, roomAnswer, fitAnswer}
+use Rattle.margins.specs.Margins.{leastTimes, marginAnswer, roomAnswer, fitAnswer, cellsAnswer}
 use Rattle.tables.specs.Accepted.{times}
 use Rattle.tables.specs.Check.{checkAnswer}
 use Rattle.builder.specs.Build.{buildAnswer}
-use Rattle.demands.specs.Cases.{Case, check, build, fit, margin, room, Claim, AllHold, cases, CasesHold}
+use Rattle.demands.specs.Cases.{Case, check, build, fit, margin, room, cells, Claim, AllHold, cases, CasesHold}
 
 abbrev sameZ : ℤ → ℤ → Bool
 sameZ (pos a) (pos b) = eqb a b
@@ -50,6 +50,7 @@ holds (build M N L a) = same (buildAnswer M N L (N * M)) a
 holds (fit M P C a) = same (fitAnswer M P C) a
 holds (margin M h H a) = same (marginAnswer M h H) a
 holds (room M H a) = same (roomAnswer M H) a
+holds (cells bits a) = same (cellsAnswer bits) a
 
 one : (c : Case) → T (holds c) → Claim c
 one (check M N L X a) t = same-answer (checkAnswer M N L X) a t
@@ -57,6 +58,7 @@ one (build M N L a) t = same-answer (buildAnswer M N L (N * M)) a t
 one (fit M P C a) t = same-answer (fitAnswer M P C) a t
 one (margin M h H a) t = same-answer (marginAnswer M h H) a t
 one (room M H a) t = same-answer (roomAnswer M H) a t
+one (cells bits a) t = same-answer (cellsAnswer bits) a t
 
 abbrev all : List Case → Bool
 all [] = true
@@ -67,5 +69,5 @@ each [] t = tt
 each (c ∷ cs) t = (one c (first (holds c) (all cs) t), each cs (second (holds c) (all cs) t))
 
 pub cases-hold : CasesHold
-unfolding checkAnswer buildAnswer marginAnswer roomAnswer fitAnswer leastTimes lowest sum times inputLoad outputLoad
+unfolding checkAnswer buildAnswer marginAnswer roomAnswer fitAnswer cellsAnswer leastTimes lowest sum times inputLoad outputLoad
 cases-hold = each cases tt

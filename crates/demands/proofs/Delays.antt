@@ -17,7 +17,7 @@ use Rattle.answers.specs.Lowest.{lowest}
 use Rattle.answers.specs.Answers.{Rule, doneWith, first}
 use Rattle.answers.proofs.Ranges.{inside, either-false}
 use Rattle.answers.proofs.First.{NoneHolds, lacks, first-none, lacked}
-use Rattle.margins.specs.Margins.{bound, marginOf, roomOf, floorDiv, leastTimes, fitOf, cellsFor, cellBits, marginRules, fitRules, cellsRules, marginAnswer, fitAnswer, cellsAnswer}
+use Rattle.margins.specs.Margins.{bound, marginOf, roomOf, floorDiv, leastTimes, fitOf, cellsFor, carriedBits, marginRules, fitRules, cellsRules, marginAnswer, fitAnswer, cellsAnswer}
 use Rattle.margins.proofs.Times.{least-reaches, lower-fails, quotient-some}
 use Rattle.demands.specs.Delays.{InTimeIffRoom, RoundedDown, RoomRoundsDown, lowestMargin, highestMargin, MarginInRange, MarginEndsReached, LeastTimes, FitIsLeast, CellsAreLeast}
 
@@ -161,8 +161,8 @@ pub cells-are-least : CellsAreLeast
 unfolding cellsAnswer
 cells-are-least bits c e =
     record {
-      enough = subst (λ (x : ℕ). bits ≤ x * cellBits) same (least-reaches cellBits bits (omega arith) some);
-      no-less = λ b l. lower-fails cellBits bits (omega arith) some b (omega (arith, same));
+      enough = subst (λ (x : ℕ). bits ≤ x * carriedBits) same (least-reaches carriedBits bits (omega arith) some);
+      no-less = λ b l. lower-fails carriedBits bits (omega arith) some b (omega (arith, same));
     }
   where
     known : NoneHolds (cellsRules bits) × (pos (cellsFor bits) ≡ pos c)

@@ -1,4 +1,4 @@
--- The starred cases of document 01, and the cases of the frame's limit, in one table.
+-- The starred cases of document 01, and the cases of the frame's limit and of the cells of a message, in one table.
 use Prim.Native.Nat.{ℕ, _*_}
 use mathlib.Core.Path.{_≡_}
 use mathlib.Core.List.{List, [], _∷_}
@@ -6,7 +6,7 @@ use lib.IntN.{pos, negsuc}
 use Rattle.answers.specs.declared.Answer.{Answer}
 use Rattle.answers.specs.Numbers.{FRAME-OUT-OF-RANGE, INPUT-OVERLOADED, OUTPUT-OVERLOADED, ENTRY-NOT-OF-ROW, INPUT-TWICE-IN-SLOT, COUNT-WRONG, PERIOD-OUT-OF-RANGE, PERIOD-DOES-NOT-FIT}
 use Rattle.answers.specs.Answers.{answer, refusal, doneWith}
-use Rattle.margins.specs.Margins.{marginAnswer, roomAnswer, fitAnswer}
+use Rattle.margins.specs.Margins.{marginAnswer, roomAnswer, fitAnswer, cellsAnswer}
 use Rattle.tables.specs.Check.{checkAnswer}
 use Rattle.builder.specs.Build.{buildAnswer}
 
@@ -17,6 +17,7 @@ pub data Case : Type 0 where
   fit : ℕ → ℕ → ℕ → Answer → Case
   margin : ℕ → ℕ → ℕ → Answer → Case
   room : ℕ → ℕ → Answer → Case
+  cells : ℕ → Answer → Case
 
 -- what a case claims: the call is answered so (a build is lent the N·M bytes of its table)
 abbrev pub Claim : Case → Type 0
@@ -25,6 +26,7 @@ Claim (build M N L a) = buildAnswer M N L (N * M) ≡ a
 Claim (fit M P C a) = fitAnswer M P C ≡ a
 Claim (margin M h H a) = marginAnswer M h H ≡ a
 Claim (room M H a) = roomAnswer M H ≡ a
+Claim (cells bits a) = cellsAnswer bits ≡ a
 
 -- every case of a list holds
 abbrev pub AllHold : List Case → Type 0
@@ -76,6 +78,10 @@ cases =
     ∷ fit 2049 2049 2048 (refusal FRAME-OUT-OF-RANGE)
     ∷ build 2049 32 (1 ∷ 32 ∷ 2048 ∷ []) (refusal FRAME-OUT-OF-RANGE)
     ∷ check 2049 1 [] [] (refusal FRAME-OUT-OF-RANGE)
+    -- cells of 500 bits, 20 of them the label's
+    ∷ cells 480 (doneWith (pos 1))
+    ∷ cells 481 (doneWith (pos 2))
+    ∷ cells 1000 (doneWith (pos 3))
     ∷ []
 
 -- "one proof over that table shows them of the definitions"

@@ -7,7 +7,7 @@ use lib.Signed.{_≤ℤ_, _<ℤ_}
 use Rattle.answers.specs.Numbers.{DONE}
 use Rattle.answers.specs.Limits.{maxFrame, maxLinks, maxDeadline}
 use Rattle.answers.specs.Answers.{doneWith}
-use Rattle.margins.specs.Margins.{marginOf, roomOf, floorDiv, cellBits, marginAnswer, roomAnswer, fitAnswer, cellsAnswer}
+use Rattle.margins.specs.Margins.{marginOf, roomOf, floorDiv, carriedBits, marginAnswer, roomAnswer, fitAnswer, cellsAnswer}
 
 -- "Margin is at least 0 exactly if h is at most the room."
 abbrev pub InTimeIffRoom : Type 0
@@ -44,6 +44,6 @@ pub record LeastTimes (d n c : ℕ) : Type 0 where
 abbrev pub FitIsLeast : Type 0
 FitIsLeast = (M P C c : ℕ) → fitAnswer M P C ≡ doneWith (pos c) → LeastTimes (P / M) C c
 
--- "bits/500 rounded up"
+-- "Cells of a message are bits/480 rounded up"
 abbrev pub CellsAreLeast : Type 0
-CellsAreLeast = (bits c : ℕ) → cellsAnswer bits ≡ doneWith (pos c) → LeastTimes cellBits bits c
+CellsAreLeast = (bits c : ℕ) → cellsAnswer bits ≡ doneWith (pos c) → LeastTimes carriedBits bits c

@@ -1,6 +1,6 @@
 -- Delay bound and margin, link room, period fit, and the cells of a message.
-use Prim.Native.Nat.{ℕ, zero, suc, _+_, _*_, _/_}
-use mathlib.Core.Bool.{Bool, _||_}
+use Prim.Native.Nat.{ℕ, _+_, _-_, _*_, _/_}
+use mathlib.Core.Bool.{_||_}
 use mathlib.Core.List.{List, [], _∷_}
 use lib.IntN.{ℤ, pos, negsuc, _-ℤ_}
 use lib.Dec.{eqb, leb, ltb}
@@ -35,13 +35,21 @@ leastTimes d n = lowest 0 n (λ c. leb n (c * d))
 abbrev pub fitOf : ℕ → ℕ → ℕ → ℕ
 fitOf M P C = leastTimes (P / M) C
 
--- the bits that a cell carries
+-- the bits of a cell
 abbrev pub cellBits : ℕ
 cellBits = 500
 
--- the cells of a message: its bits by a cell's, rounded up
+-- the bits of a cell that its flow label takes
+abbrev pub labelBits : ℕ
+labelBits = 20
+
+-- the bits of a message that a cell carries: what the label leaves
+abbrev pub carriedBits : ℕ
+carriedBits = cellBits - labelBits
+
+-- the cells of a message: its bits by those that a cell carries, rounded up
 abbrev pub cellsFor : ℕ → ℕ
-cellsFor bits = leastTimes cellBits bits
+cellsFor bits = leastTimes carriedBits bits
 
 -- margin: order 1, 15, 16
 abbrev pub marginRules : ℕ → ℕ → ℕ → List Rule

@@ -18,7 +18,14 @@ ghost use lib.IntN.{pos, _-ℤ_};
 ghost use Rattle.answers.specs.Limits.{maxFrame, maxLinks, maxDeadline, Within};
 ghost use Rattle.margins.specs.Margins.{bound, marginOf, floorDiv, roomOf, leastTimes, marginAnswer, roomAnswer, fitAnswer, cellsAnswer};
 
+// The bits of a cell.
 const CELL_BITS: usize = 500;
+
+// Of these, the bits of its flow label.
+const LABEL_BITS: usize = 20;
+
+// What the label leaves for a message.
+pub const CARRIED_BITS: usize = CELL_BITS - LABEL_BITS;
 
 // One number less another, with its sign.
 fn less(a: usize, b: usize) -> i32
@@ -115,5 +122,5 @@ pub fn cells(bits: usize) -> Answer
     if answers::outside(1, MAX_BITS, bits) {
         return answers::refusal(BITS_OUT_OF_RANGE);
     }
-    answers::naming(DONE, least_times(CELL_BITS, bits))
+    answers::naming(DONE, least_times(CARRIED_BITS, bits))
 }

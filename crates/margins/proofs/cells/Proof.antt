@@ -1,13 +1,13 @@
+-- `margins::cells` meets its contract: each way out rewrites by what was found on the way.
 use Rattle.margins.proofs.Times.{least-at-most}
 use Rattle.answers.specs.Limits.{maxBits, Within}
--- `margins::cells` meets its contract: each way out rewrites by what was found on the way.
-use Rattle.margins.specs.Margins.{cellBits, cellsAnswer}
+use Rattle.margins.specs.Margins.{cellsAnswer}
 use Rattle.answers.specs.Answers.{doneWith}
 use lib.IntN.{pos}
-use Prim.Native.Nat.{ℕ}
+use Prim.Native.Nat.{ℕ, _≤_}
 use Rattle.answers.proofs.Ranges.{inside}
 use native.Mathlib.Omega.{arith}
-use mathlib.Core.Path.{sym, ap, _∙_}
+use mathlib.Core.Path.{sym, ap, subst, _∙_}
 use borrow.Author.Needs.{needs}
 use Rattle.margins.proofs.cells.Statement.{statement}
 use Rattle.margins.proofs.cells.Tie as tie
@@ -27,8 +27,10 @@ least-times-requires c κs = search needs
 
 naming-requires : tie.Need-naming-requires
 naming-requires c κs =
-    let bits : Within 1 maxBits (c .before .before .before .args .bits) = inside (sym (c .before .before .outside .ensures) ∙ c .before .if1 .left) in
-    omega (arith, c .least-times .ensures, least-at-most cellBits (c .before .before .before .args .bits) (omega arith) (bits .at-least))
+    let asked = c .before .before .before .args .bits in
+    let bits : Within 1 maxBits asked = inside (sym (c .before .before .outside .ensures) ∙ c .before .if1 .left) in
+    let few : c .least-times .result ≤ asked = subst (λ (n : ℕ). n ≤ asked) (sym (c .least-times .ensures)) (least-at-most _ _ (search needs) (bits .at-least)) in
+    omega (arith, few)
 
 returns-2 : tie.Need-returns-2
 unfolding cellsAnswer
