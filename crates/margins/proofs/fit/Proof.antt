@@ -1,6 +1,6 @@
+-- `margins::fit` meets its contract: each way out rewrites by what was found on the way.
 use Rattle.margins.proofs.Times.{quotient-some}
 use Rattle.answers.specs.Limits.{maxFrame, maxPeriod}
--- `margins::fit` meets its contract: each way out rewrites by what was found on the way.
 use Rattle.margins.specs.Margins.{fitAnswer}
 use borrow.Author.Tests.{eq-eqb, ne-eqb, lt-ltb, le-ltb}
 use Prim.Native.Nat.{_≤_}

@@ -1,6 +1,6 @@
+-- `plan_text::reading::put_over` meets its contract: after each turn the front of the buffer is a copy.
 use Rattle.plan_text.proofs.Copying.{copy-length, copy-more, copy-whole}
 use mathlib.Core.List.{List}
--- `plan_text::reading::put_over` meets its contract: after each turn the front of the buffer is a copy.
 use lib.Seq.{paste, paste-zero}
 use lib.ListN.{length, getD, set}
 use native.Mathlib.Omega.{arith}

@@ -1,6 +1,6 @@
+-- `plan_text::reading::scan` meets its contract: what is kept and what is left make up the whole text.
 use borrow.Author.Tests.{not-true, not-false}
 use mathlib.Core.Path.{refl, sym, _∙_}
--- `plan_text::reading::scan` meets its contract: what is kept and what is left make up the whole text.
 use Rattle.plan_text.proofs.Scanning.{Going, going-start, room-left, dies, turn, ends}
 use lib.ListN.{length}
 use native.Mathlib.Omega.{arith}

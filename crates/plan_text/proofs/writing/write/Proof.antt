@@ -1,3 +1,4 @@
+-- `plan_text::writing::write` meets its contract: the list decides, then the room.
 use Rattle.plan_text.proofs.Putting.{put-over}
 use Rattle.plan_text.specs.Plans.{over}
 use Rattle.plan_text.specs.Form.{planText}
@@ -6,7 +7,6 @@ use lib.ListN.{length}
 use lib.IntN.{pos}
 use Prim.Native.Nat.{ℕ}
 use mathlib.Core.List.{List}
--- `plan_text::writing::write` meets its contract: the list decides, then the room.
 use Rattle.plan_text.proofs.TakingOver.{write-refused, write-no-room, write-done}
 use Rattle.plan_text.proofs.RoundTrip.{text-fits}
 use Rattle.flows.proofs.Shape.{listed}

@@ -1,7 +1,7 @@
+-- `tables::check::count_entries` meets its contract: after each place, the counts are those of the places passed.
 use Rattle.tables.specs.Check.{countIn}
 use mathlib.Core.Path.{ap}
 use lib.ListN.{length-set}
--- `tables::check::count_entries` meets its contract: after each place, the counts are those of the places passed.
 use Rattle.tables.proofs.Counts.{count-none, count-more, count-bound}
 use Rattle.tables.specs.Check.{Counted}
 use lib.ListN.{length, length-replicate}

@@ -1,5 +1,5 @@
-use Rattle.tables.proofs.Places.{place-within}
 -- `tables::check::meets_earlier` meets its contract: the loop is a search for an earlier row.
+use Rattle.tables.proofs.Places.{place-within}
 use Rattle.tables.specs.Check.{shareInput}
 use Rattle.answers.proofs.Lowest.{Searched, search-start, search-more, search-found, search-failed}
 use native.Mathlib.Omega.{arith}

@@ -1,7 +1,7 @@
+-- `tables::check::not_of_row` meets its contract: each way out rewrites by what was found on the way.
 use Prim.Native.Nat.{_/_}
 use native.Mathlib.Numerals.{add-one}
 use native.Mathlib.Nat.{div-le-self}
--- `tables::check::not_of_row` meets its contract: each way out rewrites by what was found on the way.
 use native.Mathlib.Omega.{arith}
 use borrow.Author.Tests.{eq-eqb, ne-eqb}
 use Rattle.tables.specs.Check.{notOfRow}
