@@ -2,3 +2,4 @@ pub mod Numbers
 pub mod Limits
 pub mod Answers
 pub mod Lowest
+pub mod Sums

@@ -13,7 +13,7 @@ use lib.Seq.{drop-set-lt}
 use Rattle.answers.specs.Limits.{maxPorts}
 use Rattle.answers.specs.Lowest.{lowest}
 use Rattle.answers.proofs.Lowest.{lowest-found, somewhere-test, somewhere-false, nowhere-test}
-use Rattle.flows.specs.Sums.{one}
+use Rattle.answers.specs.Sums.{one}
 use Rattle.flows.specs.Flows.{IsFlow, inputOf, outputOf, cellsOf, inputLoad, outputLoad}
 use Rattle.tables.specs.Accepted.{entry, times, Accepted}
 use Rattle.builder.specs.Exchange.{inputAt, outputSide}

@@ -12,8 +12,8 @@ use lib.Dec.{eqb, ltb}
 use lib.ListN.{length, getD, set, drop, length-set}
 use lib.Seq.{getD-set-same, getD-set-other, drop-set-lt}
 use Rattle.answers.proofs.Lowest.{lowest-found}
-use Rattle.flows.specs.Sums.{one}
-use Rattle.flows.proofs.Sums.{sum-change, term-le}
+use Rattle.answers.specs.Sums.{one}
+use Rattle.answers.proofs.Sums.{sum-change, term-le}
 use Rattle.tables.specs.Accepted.{entry}
 use Rattle.builder.specs.Exchange.{inputAt, swapped, unseen, holdsNext, nextRow, fromInput, run}
 use Rattle.builder.proofs.Exchange.{Clean, Free, Ready, RowSwapped, RowMarked, q-clean-after, p-clean-after, ready-next, free-after}

@@ -8,8 +8,8 @@ use native.Mathlib.Decide.{ℕ-discrete}
 use lib.Dec.{eqb}
 use lib.ListN.{length, set}
 use lib.Seq.{getD-set-same}
-use Rattle.flows.specs.Sums.{sum, one}
-use Rattle.flows.proofs.Sums.{sum-agree, sum-change, sum-exchange}
+use Rattle.answers.specs.Sums.{sum, one}
+use Rattle.answers.proofs.Sums.{sum-agree, sum-change, sum-exchange}
 use Rattle.tables.specs.Accepted.{entry, times}
 use Rattle.builder.proofs.Places.{in-table, stored-else}
 use Rattle.builder.proofs.Alternation.{RowExchanged, Exchanged}

@@ -9,9 +9,9 @@ use native.Mathlib.Decide.{ℕ-discrete}
 use native.Mathlib.Nat.{mul-one}
 use borrow.Author.Tests.{eq-eqb, ne-eqb, eqb-false}
 use lib.Dec.{eqb}
-use Rattle.flows.specs.Sums.{sum, one}
+use Rattle.answers.specs.Sums.{sum, one}
+use Rattle.answers.proofs.Sums.{sum-le, sum-const, term-le, term-below}
 use Rattle.flows.specs.Flows.{perFlow, flowCount, IsFlow, inputOf, outputOf, cellsOf, comesFrom, goesTo, inputLoad, outputLoad}
-use Rattle.flows.proofs.Sums.{sum-le, sum-const, term-le, term-below}
 use Rattle.tables.specs.Accepted.{entry, FlowOf, Accepted}
 use Rattle.tables.proofs.Counting.{counted, by-slots}
 use Rattle.builder.specs.AddCell.{SameFlows}

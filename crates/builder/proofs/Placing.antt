@@ -10,7 +10,7 @@ use borrow.Author.Tests.{eq-eqb, ne-eqb}
 use lib.Dec.{eqb, ltb}
 use lib.ListN.{length, getD, set, replicate, length-replicate, getD-replicate, List·getD-eq-default}
 use lib.Seq.{getD-set-same}
-use Rattle.flows.specs.Sums.{one}
+use Rattle.answers.specs.Sums.{one}
 use Rattle.flows.specs.Flows.{IsFlow, inputOf, outputOf}
 use Rattle.tables.specs.Accepted.{entry, times, FlowOf}
 use Rattle.builder.specs.Exchange.{inputAt, unseen, run}

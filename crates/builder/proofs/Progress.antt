@@ -11,9 +11,9 @@ use lib.Arith.{digits-lt}
 use lib.Dec.{eqb}
 use lib.ListN.{length, drop, replicate, length-replicate, getD-replicate, List·getD-append}
 use lib.Seq.{drop-at}
-use Rattle.flows.specs.Sums.{sum, one}
+use Rattle.answers.specs.Sums.{sum, one}
+use Rattle.answers.proofs.Sums.{sum-zero}
 use Rattle.flows.specs.Flows.{flowCount, IsFlow, inputOf, outputOf, cellsOf, inputLoad, outputLoad, GoodList, Fitting}
-use Rattle.flows.proofs.Sums.{sum-zero}
 use Rattle.tables.specs.Accepted.{entry, times, Accepted}
 use Rattle.builder.specs.AddCell.{withCells, oneMore, SameFlows, PortsInRange, MayAdd, CellAdded}
 use Rattle.builder.specs.InputMarks.{Marked}

@@ -11,7 +11,7 @@ use lib.ListN.{length, set}
 use lib.Seq.{getD-set-same}
 use Rattle.answers.specs.Limits.{Within}
 use Rattle.answers.proofs.Lowest.{lowest-agree, nowhere-test}
-use Rattle.flows.specs.Sums.{one}
+use Rattle.answers.specs.Sums.{one}
 use Rattle.tables.specs.Accepted.{entry}
 use Rattle.tables.specs.Check.{Holds}
 use Rattle.builder.specs.Exchange.{inputAt}

@@ -7,7 +7,7 @@ use native.Mathlib.Omega.{arith}
 use lib.Dec.{eqb}
 use lib.ListN.{length-set}
 use lib.Seq.{getD-set-same, getD-set-other}
-use Rattle.flows.specs.Sums.{one}
+use Rattle.answers.specs.Sums.{one}
 use Rattle.flows.specs.Flows.{perFlow, IsFlow, inputOf, cellsOf}
 use Rattle.tables.specs.Accepted.{entry, times, FlowOf, Accepted}
 use Rattle.builder.specs.AddCell.{withCells, SameFlows, PortsInRange}

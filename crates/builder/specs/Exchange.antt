@@ -6,7 +6,7 @@ use mathlib.Core.List.{List}
 use lib.ListN.{getD, set}
 use lib.Dec.{eqb, ltb}
 use Rattle.answers.specs.Lowest.{lowest}
-use Rattle.flows.specs.Sums.{sum, one}
+use Rattle.answers.specs.Sums.{sum, one}
 use Rattle.flows.specs.Flows.{inputOf}
 use Rattle.tables.specs.Accepted.{entry}
 use Rattle.tables.specs.Check.{Holds}

@@ -3,7 +3,7 @@ ghost use mathlib.Core.Path.{_≡_};
 ghost use Prim.Native.Nat.{_+_, _*_, _<_, _≤_};
 ghost use lib.ListN.{length};
 ghost use Rattle.answers.specs.Limits.{Within};
-ghost use Rattle.flows.specs.Sums.{one};
+ghost use Rattle.answers.specs.Sums.{one};
 ghost use Rattle.tables.specs.Check.{Holds};
 ghost use Rattle.builder.specs.Exchange.{inputAt};
 ghost use Rattle.builder.specs.FreeSlots.{inputUsed, freeOfRow, freeOfInput};

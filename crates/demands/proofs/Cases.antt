@@ -8,7 +8,7 @@ use lib.IntN.{ℤ, pos, negsuc}
 use Rattle.answers.specs.declared.Answer.{Answer}
 use Rattle.answers.specs.Lowest.{lowest}
 use Rattle.answers.specs.Answers.{answer}
-use Rattle.flows.specs.Sums.{sum}
+use Rattle.answers.specs.Sums.{sum}
 use Rattle.flows.specs.Flows.{inputLoad, outputLoad}
 use Rattle.margins.specs.Margins.{leastTimes, marginAnswer, roomAnswer, fitAnswer, cellsAnswer}
 use Rattle.tables.specs.Accepted.{times}

@@ -7,9 +7,9 @@ use native.Mathlib.Omega.{arith}
 use native.Mathlib.Numerals.{add-one}
 use borrow.Author.Tests.{lt-ltb, le-ltb}
 use lib.Dec.{ltb}
-use Rattle.flows.specs.Sums.{sum}
+use Rattle.answers.specs.Sums.{sum}
+use Rattle.answers.proofs.Sums.{sum-step, sum-prefix}
 use Rattle.flows.specs.Flows.{flowCount, cellsAt, overloaded, inputLoad, outputLoad}
-use Rattle.flows.proofs.Sums.{sum-step, sum-prefix}
 
 -- the cells that a port, taken as an input or as an output, is asked for by the first flows
 abbrev pub askedOf : Bool → List ℕ → ℕ → ℕ → ℕ

@@ -10,7 +10,7 @@ use Rattle.answers.specs.declared.Answer.{Answer}
 use Rattle.answers.specs.Numbers.{FRAME-OUT-OF-RANGE, PORTS-OUT-OF-RANGE, LIST-MISSHAPEN, FLOW-OUT-OF-RANGE}
 use Rattle.answers.specs.Limits.{maxFrame, maxPorts, maxFlows, outside, Within}
 use Rattle.answers.specs.Answers.{Rule, refusal, doneWith, _when_, namingLowest, first}
-use Rattle.flows.specs.Sums.{sum}
+use Rattle.answers.specs.Sums.{sum}
 
 -- how many numbers a flow takes in the list
 abbrev pub perFlow : ℕ

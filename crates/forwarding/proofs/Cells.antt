@@ -11,7 +11,7 @@ use lib.Seq.{getD-set-same, getD-set-other}
 use lib.Dec.{eqb, ltb}
 use Rattle.answers.specs.Limits.{Within}
 use Rattle.answers.proofs.Ranges.{inside, within-test}
-use Rattle.flows.specs.Sums.{sum, one}
+use Rattle.answers.specs.Sums.{sum, one}
 use Rattle.forwarding.specs.Forwarding.{waitingOf, unknown, sends, sentByte, taken, added, served, outputByte}
 
 -- an entry sends, and then its flow has a count and a cell waiting; or it does not

@@ -8,7 +8,7 @@ use lib.ListN.{length, length-set, length-replicate, getD-replicate}
 use lib.Dec.{eqb}
 use Rattle.answers.specs.Numbers.{DONE}
 use Rattle.answers.specs.Limits.{Within}
-use Rattle.flows.specs.Sums.{sum, one}
+use Rattle.answers.specs.Sums.{sum, one}
 use Rattle.forwarding.specs.declared.Running.{Running}
 use Rattle.forwarding.specs.Forwarding.{waitingOf}
 use Rattle.forwarding.specs.Histories.{State, Call, aFreshStart, anOffer, aSlot, answerOf, entriesNow, carriedOut, step, sentBy, acceptedBy, slotBy, freshStartBy}

@@ -5,8 +5,8 @@ use native.Mathlib.Omega.{arith}
 use native.Mathlib.Numerals.{one-add}
 use native.Mathlib.Nat.{add-zero, suc-add}
 use borrow.Author.Tests.{eq-eqb, ne-eqb}
-use Rattle.flows.specs.Sums.{sum}
-use Rattle.flows.proofs.Sums.{sum-none, sum-more}
+use Rattle.answers.specs.Sums.{sum}
+use Rattle.answers.proofs.Sums.{sum-none, sum-more}
 use Rattle.forwarding.specs.Forwarding.{nextPosition}
 
 -- f summed over the positions of n slots in a row, the first at p

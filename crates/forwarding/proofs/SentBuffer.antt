@@ -10,8 +10,8 @@ use lib.ListN.{length, getD, set, length-set}
 use lib.Seq.{getD-set-same, getD-set-other}
 use lib.Dec.{eqb}
 use Rattle.answers.specs.Numbers.{DONE}
-use Rattle.flows.specs.Sums.{one}
-use Rattle.flows.proofs.Sums.{sum-agree}
+use Rattle.answers.specs.Sums.{one}
+use Rattle.answers.proofs.Sums.{sum-agree}
 use Rattle.forwarding.specs.Forwarding.{outputByte, written}
 use Rattle.forwarding.specs.Histories.{aSlot, answerOf, done, entriesNow, sentAfter}
 use Rattle.forwarding.specs.SentBuffer.{CellsShown, BytesPastStay}

@@ -9,9 +9,9 @@ use lib.ListN.{length}
 use lib.Dec.{eqb}
 use Rattle.answers.specs.Numbers.{DONE}
 use Rattle.answers.specs.Limits.{Within}
-use Rattle.flows.specs.Sums.{sum, one}
+use Rattle.answers.specs.Sums.{sum, one}
+use Rattle.answers.proofs.Sums.{sum-none, sum-zero, sum-swap}
 use Rattle.flows.specs.Flows.{IsFlow, cellsOf}
-use Rattle.flows.proofs.Sums.{sum-none, sum-zero, sum-swap}
 use Rattle.tables.specs.Accepted.{entry, times}
 use Rattle.forwarding.specs.declared.Running.{Running}
 use Rattle.forwarding.specs.Forwarding.{waitingOf}

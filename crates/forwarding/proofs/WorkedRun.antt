@@ -5,7 +5,7 @@ use mathlib.Core.Path.{_≡_, refl}
 use mathlib.Core.List.{List, [], _∷_}
 use native.Mathlib.Omega.{arith}
 use Rattle.answers.specs.Lowest.{lowest}
-use Rattle.flows.specs.Sums.{sum}
+use Rattle.answers.specs.Sums.{sum}
 use Rattle.tables.specs.Accepted.{Accepted, times}
 use Rattle.tables.proofs.Judgement.{accepted-then}
 use Rattle.forwarding.specs.Forwarding.{offerAnswer, slotAnswer, served}

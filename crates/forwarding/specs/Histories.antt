@@ -6,7 +6,7 @@ use lib.ListN.{length, replicate}
 use lib.Dec.{eqb}
 use Rattle.answers.specs.declared.Answer.{Answer}
 use Rattle.answers.specs.Numbers.{DONE}
-use Rattle.flows.specs.Sums.{sum, one}
+use Rattle.answers.specs.Sums.{sum, one}
 use Rattle.tables.specs.Accepted.{entry}
 use Rattle.forwarding.specs.declared.Running.{Running}
 use Rattle.forwarding.specs.declared.Outcome.{Outcome}

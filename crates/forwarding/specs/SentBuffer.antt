@@ -5,7 +5,7 @@ use mathlib.Core.Bool.{true}
 use mathlib.Core.List.{List}
 use lib.ListN.{length, getD}
 use lib.Dec.{eqb}
-use Rattle.flows.specs.Sums.{sum, one}
+use Rattle.answers.specs.Sums.{sum, one}
 use Rattle.forwarding.specs.Histories.{State, aSlot, done, sentAfter, sentBy}
 
 -- after a slot flow k's number stands in the first N bytes as many times as the slot sends cells of it

@@ -10,9 +10,9 @@ use native.Mathlib.Nat.{mul-one}
 use borrow.Author.Tests.{eq-eqb, ne-eqb, eqb-true, eqb-false}
 use lib.Dec.{eqb}
 use lib.ListN.{getD}
-use Rattle.flows.specs.Sums.{sum, one}
+use Rattle.answers.specs.Sums.{sum, one}
+use Rattle.answers.proofs.Sums.{sum-agree, sum-at-most, sum-zero, sum-swap, sum-change, count-once}
 use Rattle.flows.specs.Flows.{flowCount, IsFlow, inputOf, outputOf, cellsOf, comesFrom, goesTo, inputLoad, outputLoad, Fitting}
-use Rattle.flows.proofs.Sums.{sum-agree, sum-zero, sum-le, sum-swap, sum-change, sum-const, count-once}
 use Rattle.tables.specs.Accepted.{entry, times, FlowOf, Accepted}
 
 -- 1 where the entry is a flow of which the test holds, else 0
@@ -106,7 +106,7 @@ module _ (M N : ℕ) (L T : List ℕ) (acc : Accepted M N L T) where
       held r x = split (eqb (entry M T r s) 0) (g (entry M T r s)) x .1
 
   fits : (g : ℕ → Bool) → ((s : ℕ) → s < M → sum N (λ r. counted g (entry M T r s)) ≤ 1) → sum (flowCount L) (λ k. cond (g (suc k)) (cellsOf L (suc k)) 0) ≤ M
-  fits g h = omega (arith, by-slots g, sum-le M (λ s. sum N (λ r. counted g (entry M T r s))) (λ s. 1) h, sum-const M 1, mul-one M)
+  fits g h = omega (arith, by-slots g, sum-at-most M (λ s. sum N (λ r. counted g (entry M T r s))) 1 h, mul-one M)
 
   -- two rows that hold flows of one input at a slot are one row
   one-row-an-input : (i s : ℕ) → s < M → (a b : ℕ) → a < N → b < N → (entry M T a s ≡ 0 → ⊥) → (entry M T b s ≡ 0 → ⊥)

@@ -10,9 +10,9 @@ use borrow.Author.Tests.{eq-eqb, ne-eqb}
 use lib.Dec.{eqb}
 use lib.ListN.{length, getD, set, replicate, getD-replicate, length-replicate, length-set}
 use lib.Seq.{getD-set-same, getD-set-other}
-use Rattle.flows.specs.Sums.{sum, one}
+use Rattle.answers.specs.Sums.{sum, one}
+use Rattle.answers.proofs.Sums.{sum-none, sum-more, sum-at-most, sum-rows}
 use Rattle.flows.specs.Flows.{cellsOf}
-use Rattle.flows.proofs.Sums.{sum-none, sum-more, sum-le, sum-const, sum-rows}
 use Rattle.tables.specs.Accepted.{times}
 use Rattle.tables.specs.Check.{countIn, Counted, countWrong}
 
@@ -44,7 +44,7 @@ one-at-most false = omega arith
 pub count-bound : (T : List ℕ) (end k : ℕ) → countIn T end k ≤ end
 unfolding countIn
 count-bound T end k =
-    omega (arith, sum-le end (λ p. one (eqb (getD T p 0) k)) (λ p. 1) (λ p l. one-at-most (eqb (getD T p 0) k)), sum-const end 1, mul-one end)
+    omega (arith, sum-at-most end (λ p. one (eqb (getD T p 0) k)) 1 (λ p l. one-at-most (eqb (getD T p 0) k)), mul-one end)
 
 -- over all places, the count is how many times the number stands in the table
 pub count-is-times : (M N : ℕ) (T : List ℕ) (k : ℕ) → countIn T (N * M) k ≡ times M N T k

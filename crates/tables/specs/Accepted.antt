@@ -6,7 +6,7 @@ use mathlib.Core.Bool.{Bool, true}
 use mathlib.Core.List.{List}
 use lib.ListN.{getD}
 use lib.Dec.{eqb}
-use Rattle.flows.specs.Sums.{sum, one}
+use Rattle.answers.specs.Sums.{sum, one}
 use Rattle.flows.specs.Flows.{IsFlow, flowCount, inputOf, cellsOf, goesTo}
 
 -- what stands in row r at slot s: rows and slots count from 0, M bytes a row, and row r is output r + 1's

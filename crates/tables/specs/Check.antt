@@ -11,7 +11,7 @@ use Rattle.answers.specs.Numbers.{TABLE-TOO-SHORT, ENTRY-NOT-OF-ROW, INPUT-TWIC
 use Rattle.answers.specs.Limits.{maxFrame, maxPorts, outside, Within}
 use Rattle.answers.specs.Lowest.{holdsSomewhere}
 use Rattle.answers.specs.Answers.{Rule, refusal, doneWith, _when_, namingLowest, first}
-use Rattle.flows.specs.Sums.{sum, one}
+use Rattle.answers.specs.Sums.{sum, one}
 use Rattle.flows.specs.Flows.{flowCount, inputOf, cellsOf, goesTo, listRules}
 use Rattle.tables.specs.Accepted.{entry, times}
 

@@ -10,8 +10,8 @@ ghost use Prim.Native.Nat.{ℕ, _+_, _*_, _<_, _≤_};
 ghost use lib.ListN.{length, getD};
 ghost use Rattle.answers.specs.Limits.{maxPorts, maxFrame, maxFlows};
 ghost use Rattle.answers.specs.Lowest.{lowest, holdsSomewhere};
+ghost use Rattle.answers.specs.Sums.{sum, one};
 ghost use Rattle.flows.specs.Flows.{flowCount};
-ghost use Rattle.flows.specs.Sums.{sum, one};
 ghost use Rattle.tables.specs.Accepted.{entry};
 ghost use Rattle.tables.specs.Check.{noFlowOf, notOfRow, shareInput, inputTwice, countWrong, countIn, checkAnswer, entriesAnswer, Holds, Counted};
 

@@ -2,8 +2,8 @@
 use Prim.Native.Nat.{suc, _+_, _-_, _≤_}
 use mathlib.Core.Path.{_≡_}
 use native.Mathlib.Omega.{arith}
+use Rattle.answers.proofs.Sums.{sum-none}
 use Rattle.flows.specs.Flows.{flowCount, cellsAt}
-use Rattle.flows.proofs.Sums.{sum-none}
 use Rattle.flows.proofs.Loads.{askedOf, none-free, some-free, all-free}
 use Rattle.flows.proofs.port_overloaded.Statement.{statement}
 use Rattle.flows.proofs.port_overloaded.Tie as tie

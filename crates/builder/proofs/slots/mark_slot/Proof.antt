@@ -3,7 +3,7 @@ use Prim.Native.Nat.{ℕ, _-_, _≤_}
 use mathlib.Core.Path.{_≡_, refl, _∙_, subst}
 use native.Mathlib.Omega.{arith}
 use lib.ListN.{length, length-set}
-use Rattle.flows.specs.Sums.{one}
+use Rattle.answers.specs.Sums.{one}
 use Rattle.tables.proofs.Places.{place-within}
 use Rattle.builder.proofs.Remarking.{MarkedTo, marked-none, marked-more, marked-all}
 use Rattle.builder.proofs.slots.mark_slot.Statement.{statement}

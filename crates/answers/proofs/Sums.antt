@@ -6,7 +6,7 @@ use native.Mathlib.Omega.{arith}
 use native.Mathlib.Decide.{ℕ-discrete, decLt}
 use native.Mathlib.Nat.{le-antisymm, zero-mul, suc-mul, add-zero, add-suc}
 use native.Mathlib.Numerals.{add-one}
-use Rattle.flows.specs.Sums.{sum, one}
+use Rattle.answers.specs.Sums.{sum, one}
 
 pub sum-none : (f : ℕ → ℕ) → sum 0 f ≡ 0
 unfolding sum
@@ -34,6 +34,9 @@ pub sum-const : (n c : ℕ) → sum n (λ k. c) ≡ n * c
 unfolding sum
 sum-const zero c = sym (zero-mul c)
 sum-const (suc n) c = omega (arith, sum-const n c, suc-mul n c)
+
+pub sum-at-most : (n : ℕ) (f : ℕ → ℕ) (c : ℕ) → ((k : ℕ) → k < n → f k ≤ c) → sum n f ≤ n * c
+sum-at-most n f c h = omega (arith, sum-le n f (λ k. c) h, sum-const n c)
 
 pub sum-zero : (n : ℕ) (f : ℕ → ℕ) → ((k : ℕ) → k < n → f k ≡ 0) → sum n f ≡ 0
 unfolding sum
