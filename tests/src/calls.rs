@@ -1,7 +1,7 @@
 //! The fixed sequence of calls that the proved program makes too; the two outputs are compared.
 
 use crate::answer::{shown, Outcome, Refusal};
-use crate::delays::CARRIED_BITS;
+use crate::delays::{CARRIED_BITS, MOST_DELAY};
 use crate::flows::MOST_FRAME;
 use crate::forwarding::Running;
 use crate::{delays, forwarding, table, text};
@@ -25,7 +25,9 @@ const DEADLINES: Edges = [
     1000001,
     4000000000,
 ];
-const LINKS: Edges = [0, 1, 2, 254, 255, 256, 4000000000, 3, 10, 100];
+const LINKS: Edges = [0, 1, 2, 254, 255, 256, 300, 3, 10, 100];
+const DELAYS: Edges =
+    [0, 1, 2, 20, MOST_DELAY - 1, MOST_DELAY, MOST_DELAY + 1, 65535, 65536, 4000000000];
 const PERIODS: Edges = [0, 1, 4, 5, 11, MOST_FRAME, MOST_FRAME - 1, 999999, 1000000, 1000001];
 const CELLS: Edges = [0, 1, 2, 3, 6, MOST_FRAME, MOST_FRAME + 1, 65535, 65536, 4000000000];
 const BITS: Edges = [
@@ -128,15 +130,33 @@ impl Calls {
         }
     }
 
+    /// Delays in range, and then up to two that may not be: one near the front, one anywhere, if
+    /// the list goes so far.
+    fn delays(&mut self, links: u32) -> Vec<u16> {
+        let mut delays: Vec<_> = (0..links).map(|_| 1 + self.pick(MOST_DELAY) as u16).collect();
+        for places in [12, 300] {
+            if self.rarely(3) {
+                let place = self.pick(places) as usize;
+                let delay = self.of(&DELAYS).min(65_535) as u16;
+                if let Some(there) = delays.get_mut(place) {
+                    *there = delay;
+                }
+            }
+        }
+        delays
+    }
+
     fn margin(&mut self) {
         let (frame, links) = (self.of(&FRAMES), self.of(&LINKS));
+        let delays = self.delays(links);
         let deadline = self.of(&DEADLINES);
-        self.answer("margin", delays::margin(frame, links, deadline));
+        self.answer("margin", delays::margin(frame, &delays, deadline));
     }
 
     fn room(&mut self) {
-        let (frame, deadline) = (self.of(&FRAMES), self.of(&DEADLINES));
-        self.answer("room", delays::room(frame, deadline));
+        let (frame, delay) = (self.of(&FRAMES), self.of(&DELAYS));
+        let deadline = self.of(&DEADLINES);
+        self.answer("room", delays::room(frame, delay, deadline));
     }
 
     fn fit(&mut self) {
@@ -357,7 +377,7 @@ mod tests {
     /// read's, which the planner's texts meet.
     #[test]
     fn nearly_every_answer_is_met() {
-        let wanted = "margin 0 1 15 16;room 0 1 16;fit 0 1 17 18;cells 0 23;\
+        let wanted = "margin 0 1 15 16 25;room 0 1 16 25;fit 0 1 17 18;cells 0 23;\
              check 1 2 3 4 7 8 10;row 0 1 2 7 22;start 0 1 2 12;offer 0 12 13 14;\
              slot 0 7 12;write 0 1 2 3 4 21;read 0 20 21;accept 0 8 9 10;other 0 1 2 7 11";
         let lines = lines();

@@ -23,6 +23,10 @@ maxWaiting = 4000
 abbrev pub maxLinks : ℕ
 maxLinks = 255
 
+-- a link's delay, in slots: 1 to this
+abbrev pub maxDelay : ℕ
+maxDelay = 40
+
 -- deadline H, in slots: 0 to this
 abbrev pub maxDeadline : ℕ
 maxDeadline = 1000000

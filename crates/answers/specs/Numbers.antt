@@ -95,3 +95,7 @@ OUTPUT-OUT-OF-RANGE = 22
 -- a message's bits are not 1 to their limit
 abbrev pub BITS-OUT-OF-RANGE : ℕ
 BITS-OUT-OF-RANGE = 23
+
+-- a link's delay is not 1 to its limit; detail: the place, from 0, of the lowest such in a list of delays, and 0 for one that stands for all links
+abbrev pub DELAY-OUT-OF-RANGE : ℕ
+DELAY-OUT-OF-RANGE = 25

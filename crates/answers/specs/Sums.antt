@@ -1,4 +1,4 @@
--- Sums over the first numbers: every count and every load is one of these.
+-- Sums over the first numbers: every count, every load and the delays of all links are one of these.
 use Prim.Native.Nat.{ℕ, zero, suc, _+_}
 use mathlib.Core.Bool.{Bool, true, false}
 

@@ -60,6 +60,8 @@ pub const OUTPUT_OUT_OF_RANGE: u32 = 22;
 
 pub const BITS_OUT_OF_RANGE: u32 = 23;
 
+pub const DELAY_OUT_OF_RANGE: u32 = 25;
+
 pub const MAX_FRAME: usize = 2048;
 
 pub const MAX_PORTS: usize = 32;
@@ -69,6 +71,8 @@ pub const MAX_FLOWS: usize = 255;
 pub const MAX_WAITING: usize = 4000;
 
 pub const MAX_LINKS: usize = 255;
+
+pub const MAX_DELAY: usize = 40;
 
 pub const MAX_DEADLINE: usize = 1000000;
 

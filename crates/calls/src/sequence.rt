@@ -1,4 +1,5 @@
 // The fixed sequence of numbers, and the choices made from it. Every choice takes the state and hands back the next one.
+use answers::MAX_DELAY;
 use answers::MAX_FRAME;
 use margins::CARRIED_BITS;
 ghost use Prim.Native.Nat.{_<_, _≤_};
@@ -21,7 +22,20 @@ pub const DEADLINES: [usize; 10] = [
     4000000000,
 ];
 
-pub const LINKS: [usize; 10] = [0, 1, 2, 254, 255, 256, 4000000000, 3, 10, 100];
+pub const LINKS: [usize; 10] = [0, 1, 2, 254, 255, 256, 300, 3, 10, 100];
+
+pub const DELAYS: [usize; 10] = [
+    0,
+    1,
+    2,
+    20,
+    MAX_DELAY - 1,
+    MAX_DELAY,
+    MAX_DELAY + 1,
+    65535,
+    65536,
+    4000000000,
+];
 
 pub const PERIODS: [usize; 10] = [
     0,

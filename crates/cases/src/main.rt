@@ -1,4 +1,4 @@
-// Runs cases of the documents: those that are not proved of the definitions, and the limit of the frame. Prints a line for each: what was asked, number, comma, detail.
+// Runs cases of the documents: those that are not proved of the definitions, and the limits of the frame and of the links. Prints a line for each: what was asked, number, comma, detail.
 use answers::Answer;
 use answers::MAX_FRAME;
 use answers::MAX_PORTS;
@@ -33,9 +33,29 @@ fn frames_at_their_limits() {
         b"check with frame 0 and ports 0",
         tables::check::check(0, 0, &list, &table),
     );
-    print_answer(b"margin in frame 0", margins::margin(0, 0, 0));
-    print_answer(b"margin in frame 2048", margins::margin(2048, 0, 2047));
-    print_answer(b"margin in frame 2049", margins::margin(2049, 0, 2047));
+    let none = [0u16; 0];
+    print_answer(b"margin in frame 0", margins::margin(0, &none, 0));
+    print_answer(b"margin in frame 2048", margins::margin(2048, &none, 2047));
+    print_answer(b"margin in frame 2049", margins::margin(2049, &none, 2047));
+}
+
+// The lowest margin that there is, then the last delay one slot too long for it, and one link too many.
+fn links_at_their_limits() {
+    let mut delays = [40u16; 255];
+    print_answer(
+        b"margin over 255 links of 40 slots",
+        margins::margin(2048, &delays, 0),
+    );
+    delays[254] = 41;
+    print_answer(
+        b"then with 41 slots for the last",
+        margins::margin(2048, &delays, 0),
+    );
+    let more = [40u16; 256];
+    print_answer(
+        b"margin over 256 links of 40 slots",
+        margins::margin(2048, &more, 0),
+    );
 }
 
 // A whole table of 65,536 bytes, whose one flow stands in the first slot.
@@ -66,6 +86,7 @@ fn offers_at_the_limit() {
 fn main() {
     cells_of_messages();
     frames_at_their_limits();
+    links_at_their_limits();
     tables_at_their_limits();
     offers_at_the_limit();
 }

@@ -48,16 +48,16 @@ abbrev holds : Case → Bool
 holds (check M N L X a) = same (checkAnswer M N L X) a
 holds (build M N L a) = same (buildAnswer M N L (N * M)) a
 holds (fit M P C a) = same (fitAnswer M P C) a
-holds (margin M h H a) = same (marginAnswer M h H) a
-holds (room M H a) = same (roomAnswer M H) a
+holds (margin M D H a) = same (marginAnswer M D H) a
+holds (room M d H a) = same (roomAnswer M d H) a
 holds (cells bits a) = same (cellsAnswer bits) a
 
 one : (c : Case) → T (holds c) → Claim c
 one (check M N L X a) t = same-answer (checkAnswer M N L X) a t
 one (build M N L a) t = same-answer (buildAnswer M N L (N * M)) a t
 one (fit M P C a) t = same-answer (fitAnswer M P C) a t
-one (margin M h H a) t = same-answer (marginAnswer M h H) a t
-one (room M H a) t = same-answer (roomAnswer M H) a t
+one (margin M D H a) t = same-answer (marginAnswer M D H) a t
+one (room M d H a) t = same-answer (roomAnswer M d H) a t
 one (cells bits a) t = same-answer (cellsAnswer bits) a t
 
 abbrev all : List Case → Bool

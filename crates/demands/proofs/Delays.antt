@@ -2,24 +2,27 @@
 use Prim.Native.Nat.{ℕ, zero, suc, _+_, _-_, _*_, _/_, _%_, _≤_, _<_}
 use mathlib.Core.Path.{_≡_, refl, sym, _∙_, ap, subst}
 use mathlib.Core.Logic.{_↔_, _⊎_, inl, inr}
-use mathlib.Core.Bool.{Bool, true, false, cond}
-use mathlib.Core.List.{List}
+use mathlib.Core.Bool.{Bool, true, false, cond, true≢false}
+use mathlib.Core.List.{List, [], _∷_}
 use native.Mathlib.Omega.{arith}
-use native.Mathlib.Nat.{div-add-mod', mod-lt, le-div-iff-mul-le, mul-comm, mul-le-mul, zero-mul, suc-mul}
+use native.Mathlib.Nat.{div-add-mod', mod-lt, le-div-iff-mul-le, mul-comm, mul-add, add-mul, suc-mul}
 use borrow.Author.Tests.{ltb-true, ltb-false, eqb-false}
 use lib.Dec.{T, leb, ltb, eqb, le→leb, leb→le, lt→ltb}
+use lib.ListN.{length, replicate}
 use lib.IntN.{ℤ, pos, negsuc, sucℤ, negℤ, _-ℤ_, _*ℤ_}
 use lib.Signed.{_≤ℤ_, _<ℤ_, leZ, ltZ, mag}
 use Rattle.answers.specs.declared.Answer.{Answer}
-use Rattle.answers.specs.Numbers.{DONE}
-use Rattle.answers.specs.Limits.{maxFrame, maxLinks, maxDeadline, maxPeriod, maxBits, Within}
-use Rattle.answers.specs.Lowest.{lowest}
-use Rattle.answers.specs.Answers.{Rule, doneWith, first}
-use Rattle.answers.proofs.Ranges.{inside, either-false}
-use Rattle.answers.proofs.First.{NoneHolds, lacks, first-none, lacked}
-use Rattle.margins.specs.Margins.{bound, marginOf, roomOf, floorDiv, leastTimes, fitOf, cellsFor, carriedBits, marginRules, fitRules, cellsRules, marginAnswer, fitAnswer, cellsAnswer}
+use Rattle.answers.specs.Numbers.{DONE, FRAME-OUT-OF-RANGE, LINKS-OUT-OF-RANGE, DEADLINE-OUT-OF-RANGE, DELAY-OUT-OF-RANGE}
+use Rattle.answers.specs.Limits.{maxFrame, maxLinks, maxDelay, maxDeadline, maxBits, outside, Within}
+use Rattle.answers.specs.Lowest.{lowest, IsLowest}
+use Rattle.answers.specs.Sums.{sum}
+use Rattle.answers.specs.Answers.{Rule, answer, refusal, doneWith, _when_, first}
+use Rattle.answers.proofs.Ranges.{inside, within-test, either-false}
+use Rattle.answers.proofs.First.{NoneHolds, lacks, first-none, lacked, named-exactly}
+use Rattle.margins.specs.Margins.{bound, marginOf, roomOf, floorDiv, fitOf, cellsFor, carriedBits, linkOutOfRange, marginRules, fitRules, cellsRules, marginAnswer, fitAnswer, cellsAnswer}
+use Rattle.margins.proofs.Bounds.{bound-at-most, common-bound}
 use Rattle.margins.proofs.Times.{least-reaches, lower-fails, quotient-some}
-use Rattle.demands.specs.Delays.{InTimeIffRoom, RoundedDown, RoomRoundsDown, lowestMargin, highestMargin, MarginInRange, MarginEndsReached, LeastTimes, FitIsLeast, CellsAreLeast}
+use Rattle.demands.specs.Delays.{BoundOfOnes, InTimeIffRoom, RoundedDown, RoomRoundsDown, lowestMargin, highestMargin, MarginInRange, MarginEndsReached, Asked, NotOfALink, NamesLink, FitIsLeast, CellsAreLeast}
 
 -- a difference of two numbers, by which is larger
 Less : ℕ → ℕ → Type 0
@@ -39,33 +42,37 @@ less a (suc b) = go (ltb a (suc b)) refl
 never : (h n : ℕ) → pos h ≤ℤ negsuc n → ⊥
 never h n x = x .le
 
--- h links take no more than what is left of the deadline exactly if they fit into it so many times
-links-fit : (M h H : ℕ) → M ≤ H → (h ≤ (H - M) / (M + 1)) ↔ (bound M h ≤ H)
-links-fit M h H w =
-    let law = le-div-iff-mul-le {k = M + 1} {x = h} {y = H - M} (omega arith) in
-    (λ x. omega (arith, law .0 x, mul-comm h (M + 1)), λ x. law .1 (omega (arith, mul-comm h (M + 1))))
+pub bound-of-ones : BoundOfOnes
+bound-of-ones M h = omega (arith, common-bound M h 1, mul-comm h M)
+
+-- h links of delay d take no more than what is left of the deadline exactly if they fit into it so many times
+links-fit : (M h d H : ℕ) → 1 ≤ d → M ≤ H → (h ≤ (H - M) / (M + d)) ↔ (bound M (replicate h d) ≤ H)
+links-fit M h d H some w =
+    let law = le-div-iff-mul-le {k = M + d} {x = h} {y = H - M} (omega arith) in
+    let all = common-bound M h d in
+    (λ x. omega (arith, law .0 x, all, mul-add h M d), λ x. law .1 (omega (arith, all, mul-add h M d)))
 
 pub in-time-iff-room : InTimeIffRoom
 unfolding Less
-in-time-iff-room M h H = go (less H (bound M h)) (less H M)
+in-time-iff-room M h d H some = go (less H (bound M (replicate h d))) (less H M)
   where
     margin : ℤ → Type 0
     margin z = pos 0 ≤ℤ z
 
     room : ℤ → Type 0
-    room z = pos h ≤ℤ floorDiv z (M + 1)
+    room z = pos h ≤ℤ floorDiv z (M + d)
 
-    go : Less H (bound M h) → Less H M → (pos 0 ≤ℤ marginOf M h H) ↔ (pos h ≤ℤ roomOf M H)
+    go : Less H (bound M (replicate h d)) → Less H M → (pos 0 ≤ℤ marginOf M (replicate h d) H) ↔ (pos h ≤ℤ roomOf M d H)
     go (inl late) (inl short) =
-        (λ x. absurd (never 0 (bound M h - suc H) (subst margin (late .1) x)), λ x. absurd (never h ((M - suc H) / (M + 1)) (subst room (short .1) x)))
+        (λ x. absurd (never 0 (bound M (replicate h d) - suc H) (subst margin (late .1) x)), λ x. absurd (never h ((M - suc H) / (M + d)) (subst room (short .1) x)))
     go (inl late) (inr wide) = (
-      λ x. absurd (never 0 (bound M h - suc H) (subst margin (late .1) x)),
-      λ x. absurd (omega (arith, links-fit M h H (wide .0) .0 (leb→le h ((H - M) / (M + 1)) (subst room (wide .1) x .le)), late .0)),
+      λ x. absurd (never 0 (bound M (replicate h d) - suc H) (subst margin (late .1) x)),
+      λ x. absurd (omega (arith, links-fit M h d H some (wide .0) .0 (leb→le h ((H - M) / (M + d)) (subst room (wide .1) x .le)), late .0)),
     )
-    go (inr early) (inl short) = absurd (omega (arith, early .0, short .0))
+    go (inr early) (inl short) = absurd (omega (arith, early .0, short .0, common-bound M h d, add-mul h 1 M))
     go (inr early) (inr wide) = (
-      λ x. subst room (sym (wide .1)) (record { le = le→leb h ((H - M) / (M + 1)) (links-fit M h H (wide .0) .1 (early .0)) }),
-      λ x. subst margin (sym (early .1)) (record { le = le→leb 0 (H - bound M h) (omega arith) }),
+      λ x. subst room (sym (wide .1)) (record { le = le→leb h ((H - M) / (M + d)) (links-fit M h d H some (wide .0) .1 (early .0)) }),
+      λ x. subst margin (sym (early .1)) (record { le = le→leb 0 (H - bound M (replicate h d)) (omega arith) }),
     )
 
 -- a number that is not 0, taken below zero
@@ -98,7 +105,7 @@ floor-law (negsuc a) d some = record { not-above = above; nearest = near (a / d)
         subst (λ (z : ℤ). negsuc a <ℤ z) (sym (negated (suc q * d) some-of)) (record { lt = lt→ltb (suc q * d - 1) a (omega arith) })
 
 pub room-rounds-down : RoomRoundsDown
-room-rounds-down M H = floor-law (pos H -ℤ pos M) (M + 1) (omega arith)
+room-rounds-down M d H some = floor-law (pos H -ℤ pos M) (M + d) (omega arith)
 
 -- an answer that is done was refused by none of the rules
 done-rules : (rs : List Rule) (d m : ℤ) → T (lacks DONE rs) → first rs (doneWith d) ≡ doneWith m → NoneHolds rs × (d ≡ m)
@@ -108,34 +115,67 @@ done-rules rs d m t e =
 
 pub margin-in-range : MarginInRange
 unfolding marginAnswer Less
-margin-in-range M h H m e = subst (λ (z : ℤ). (lowestMargin ≤ℤ z) × (z ≤ℤ highestMargin)) (known .1) (go (less H (bound M h)))
+margin-in-range M D H m e = subst (λ (z : ℤ). (lowestMargin ≤ℤ z) × (z ≤ℤ highestMargin)) (known .1) (go (less H (bound M D)))
   where
-    known : NoneHolds (marginRules M h H) × (marginOf M h H ≡ m)
-    known = done-rules (marginRules M h H) (marginOf M h H) m tt e
+    known : NoneHolds (marginRules M D H) × (marginOf M D H ≡ m)
+    known = done-rules (marginRules M D H) (marginOf M D H) m tt e
 
     frames : Within 1 maxFrame M
     frames = inside (known .0 .0)
 
-    links : Within 0 maxLinks h
+    links : Within 0 maxLinks (length D)
     links = inside (known .0 .1 .0)
 
     deadlines : Within 0 maxDeadline H
     deadlines = inside (known .0 .1 .1 .0)
 
-    most : (M + 1) * h ≤ (maxFrame + 1) * maxLinks
-    most = mul-le-mul {n₁ = M + 1} {m₁ = h} {n₂ = maxFrame + 1} {m₂ = maxLinks} (omega (arith, frames)) (links .at-most)
+    most : bound M D ≤ (maxLinks + 1) * maxFrame + maxLinks * maxDelay
+    most = bound-at-most M D (frames .at-most) (links .at-most) (known .0 .1 .1 .1 .0)
 
-    go : Less H (bound M h) → (lowestMargin ≤ℤ marginOf M h H) × (marginOf M h H ≤ℤ highestMargin)
+    go : Less H (bound M D) → (lowestMargin ≤ℤ marginOf M D H) × (marginOf M D H ≤ℤ highestMargin)
     go (inl late) =
         subst (λ (z : ℤ). (lowestMargin ≤ℤ z) × (z ≤ℤ highestMargin)) (sym (late .1))
-        (record { le = le→leb (bound M h - suc H) _ (omega (arith, most, frames)) }, record { le = tt })
+        (record { le = le→leb (bound M D - suc H) _ (omega (arith, most)) }, record { le = tt })
     go (inr early) =
         subst (λ (z : ℤ). (lowestMargin ≤ℤ z) × (z ≤ℤ highestMargin)) (sym (early .1))
-        (record { le = tt }, record { le = le→leb (H - bound M h) _ (omega (arith, frames, deadlines)) })
+        (record { le = tt }, record { le = le→leb (H - bound M D) _ (omega (arith, frames, deadlines, add-mul (length D) 1 M)) })
 
 pub margin-ends-reached : MarginEndsReached
-unfolding marginAnswer
+unfolding marginAnswer lowest sum
 margin-ends-reached = (refl, refl)
+
+-- what refusal 25 tests of a link is what it says of it
+outside-says : (D : List ℕ) (link : ℕ) → linkOutOfRange D link ≡ true → NotOfALink D link
+outside-says D link e w = true≢false (sym e ∙ within-test w)
+
+outside-means : (D : List ℕ) (link : ℕ) → NotOfALink D link → linkOutOfRange D link ≡ true
+outside-means D link h = go (linkOutOfRange D link) refl
+  where
+    go : (b : Bool) → linkOutOfRange D link ≡ b → b ≡ true
+    go true e = refl
+    go false e = absurd (h (inside e))
+
+pub names-link : NamesLink
+unfolding marginAnswer
+names-link M D H k = (λ e. let h = law .0 e in (asked (h .0), h .1), λ h. law .1 (not-refused (h .0), h .1))
+  where
+    before : List Rule
+    before =
+        (refusal FRAME-OUT-OF-RANGE when outside 1 maxFrame M)
+        ∷ (refusal LINKS-OUT-OF-RANGE when outside 0 maxLinks (length D))
+        ∷ (refusal DEADLINE-OUT-OF-RANGE when outside 0 maxDeadline H)
+        ∷ []
+
+    asked : NoneHolds before → Asked M D H
+    asked h = record { frame-in-range = inside (h .0); links-in-range = inside (h .1 .0); deadline-in-range = inside (h .1 .1 .0) }
+
+    not-refused : Asked M D H → NoneHolds before
+    not-refused a = (within-test (a .frame-in-range), (within-test (a .links-in-range), (within-test (a .deadline-in-range), tt)))
+
+    law : (marginAnswer M D H ≡ answer DELAY-OUT-OF-RANGE (pos k)) ↔ (NoneHolds before × IsLowest 0 (length D) (NotOfALink D) k)
+    law =
+        named-exactly DELAY-OUT-OF-RANGE 0 (length D) (linkOutOfRange D) (NotOfALink D) (λ j a u. outside-says D j) (λ j a u. outside-means D j)
+        before [] (doneWith (marginOf M D H)) k tt tt tt
 
 pub fit-is-least : FitIsLeast
 unfolding fitAnswer

@@ -1,10 +1,11 @@
--- The starred cases of document 01, and the cases of the frame's limit and of the cells of a message, in one table.
+-- The starred cases of document 01, and the cases of the frame's limit, of links that take longer and of the cells of a message, in one table.
 use Prim.Native.Nat.{ℕ, _*_}
 use mathlib.Core.Path.{_≡_}
 use mathlib.Core.List.{List, [], _∷_}
 use lib.IntN.{pos, negsuc}
+use lib.ListN.{replicate}
 use Rattle.answers.specs.declared.Answer.{Answer}
-use Rattle.answers.specs.Numbers.{FRAME-OUT-OF-RANGE, INPUT-OVERLOADED, OUTPUT-OVERLOADED, ENTRY-NOT-OF-ROW, INPUT-TWICE-IN-SLOT, COUNT-WRONG, PERIOD-OUT-OF-RANGE, PERIOD-DOES-NOT-FIT}
+use Rattle.answers.specs.Numbers.{FRAME-OUT-OF-RANGE, INPUT-OVERLOADED, OUTPUT-OVERLOADED, ENTRY-NOT-OF-ROW, INPUT-TWICE-IN-SLOT, COUNT-WRONG, LINKS-OUT-OF-RANGE, DEADLINE-OUT-OF-RANGE, PERIOD-OUT-OF-RANGE, PERIOD-DOES-NOT-FIT, DELAY-OUT-OF-RANGE}
 use Rattle.answers.specs.Answers.{answer, refusal, doneWith}
 use Rattle.margins.specs.Margins.{marginAnswer, roomAnswer, fitAnswer, cellsAnswer}
 use Rattle.tables.specs.Check.{checkAnswer}
@@ -15,8 +16,8 @@ pub data Case : Type 0 where
   check : ℕ → ℕ → List ℕ → List ℕ → Answer → Case
   build : ℕ → ℕ → List ℕ → Answer → Case
   fit : ℕ → ℕ → ℕ → Answer → Case
-  margin : ℕ → ℕ → ℕ → Answer → Case
-  room : ℕ → ℕ → Answer → Case
+  margin : ℕ → List ℕ → ℕ → Answer → Case
+  room : ℕ → ℕ → ℕ → Answer → Case
   cells : ℕ → Answer → Case
 
 -- what a case claims: the call is answered so (a build is lent the N·M bytes of its table)
@@ -24,8 +25,8 @@ abbrev pub Claim : Case → Type 0
 Claim (check M N L T a) = checkAnswer M N L T ≡ a
 Claim (build M N L a) = buildAnswer M N L (N * M) ≡ a
 Claim (fit M P C a) = fitAnswer M P C ≡ a
-Claim (margin M h H a) = marginAnswer M h H ≡ a
-Claim (room M H a) = roomAnswer M H ≡ a
+Claim (margin M D H a) = marginAnswer M D H ≡ a
+Claim (room M d H a) = roomAnswer M d H ≡ a
 Claim (cells bits a) = cellsAnswer bits ≡ a
 
 -- every case of a list holds
@@ -60,21 +61,37 @@ cases =
     ∷ fit 5 11 3 (doneWith (pos 2))
     ∷ fit 5 4 3 (refusal PERIOD-OUT-OF-RANGE)
     ∷ fit 5 5 6 (refusal PERIOD-DOES-NOT-FIT)
-    -- frame 2000: the lost minus
-    ∷ margin 2000 0 1999 (doneWith (negsuc 0))
-    ∷ room 2000 1999 (doneWith (negsuc 0))
-    ∷ margin 2000 1 4001 (doneWith (pos 0))
-    ∷ room 2000 4001 (doneWith (pos 1))
-    ∷ margin 2000 1 4000 (doneWith (negsuc 0))
-    ∷ room 2000 4000 (doneWith (pos 0))
+    -- frame 2000, every delay 1: the lost minus
+    ∷ margin 2000 [] 1999 (doneWith (negsuc 0))
+    ∷ room 2000 1 1999 (doneWith (negsuc 0))
+    ∷ margin 2000 (1 ∷ []) 4001 (doneWith (pos 0))
+    ∷ room 2000 1 4001 (doneWith (pos 1))
+    ∷ margin 2000 (1 ∷ []) 4000 (doneWith (negsuc 0))
+    ∷ room 2000 1 4000 (doneWith (pos 0))
+    -- the same with a radio hop of 40 slots
+    ∷ margin 2000 (40 ∷ []) 4040 (doneWith (pos 0))
+    ∷ room 2000 40 4040 (doneWith (pos 1))
+    ∷ margin 2000 (40 ∷ []) 4039 (doneWith (negsuc 0))
+    ∷ room 2000 40 4039 (doneWith (pos 0))
+    -- frame 5, three links of different delays: four switches take 20 slots, the links 43
+    ∷ margin 5 (1 ∷ 40 ∷ 2 ∷ []) 63 (doneWith (pos 0))
+    ∷ margin 5 (1 ∷ 40 ∷ 2 ∷ []) 62 (doneWith (negsuc 0))
+    -- delays outside 1 to 40: the lowest is named, after 15 and 16
+    ∷ margin 5 (0 ∷ 41 ∷ []) 63 (answer DELAY-OUT-OF-RANGE (pos 0))
+    ∷ margin 5 (1 ∷ 40 ∷ 41 ∷ 0 ∷ []) 63 (answer DELAY-OUT-OF-RANGE (pos 2))
+    ∷ margin 5 (0 ∷ []) 1000001 (refusal DEADLINE-OUT-OF-RANGE)
+    ∷ margin 5 (replicate 256 0) 1000001 (refusal LINKS-OUT-OF-RANGE)
+    ∷ room 5 0 63 (refusal DELAY-OUT-OF-RANGE)
+    ∷ room 5 41 63 (refusal DELAY-OUT-OF-RANGE)
+    ∷ room 5 0 1000001 (refusal DEADLINE-OUT-OF-RANGE)
     -- frame 2,048: done
-    ∷ margin 2048 0 2047 (doneWith (negsuc 0))
-    ∷ room 2048 2048 (doneWith (pos 0))
+    ∷ margin 2048 [] 2047 (doneWith (negsuc 0))
+    ∷ room 2048 1 2048 (doneWith (pos 0))
     ∷ fit 2048 2048 2048 (doneWith (pos 2048))
     ∷ build 2048 32 (1 ∷ 32 ∷ 2048 ∷ []) (doneWith (pos 0))
     -- frame 2,049: refused
-    ∷ margin 2049 0 2047 (refusal FRAME-OUT-OF-RANGE)
-    ∷ room 2049 2048 (refusal FRAME-OUT-OF-RANGE)
+    ∷ margin 2049 [] 2047 (refusal FRAME-OUT-OF-RANGE)
+    ∷ room 2049 1 2048 (refusal FRAME-OUT-OF-RANGE)
     ∷ fit 2049 2049 2048 (refusal FRAME-OUT-OF-RANGE)
     ∷ build 2049 32 (1 ∷ 32 ∷ 2048 ∷ []) (refusal FRAME-OUT-OF-RANGE)
     ∷ check 2049 1 [] [] (refusal FRAME-OUT-OF-RANGE)

@@ -1,31 +1,41 @@
 -- Delay bound and margin, link room, period fit, and the cells of a message.
 use Prim.Native.Nat.{ℕ, _+_, _-_, _*_, _/_}
-use mathlib.Core.Bool.{_||_}
+use mathlib.Core.Bool.{Bool, _||_}
 use mathlib.Core.List.{List, [], _∷_}
 use lib.IntN.{ℤ, pos, negsuc, _-ℤ_}
+use lib.ListN.{length, getD}
 use lib.Dec.{eqb, leb, ltb}
 use Rattle.answers.specs.declared.Answer.{Answer}
-use Rattle.answers.specs.Numbers.{FRAME-OUT-OF-RANGE, LINKS-OUT-OF-RANGE, DEADLINE-OUT-OF-RANGE, PERIOD-OUT-OF-RANGE, PERIOD-DOES-NOT-FIT, BITS-OUT-OF-RANGE}
-use Rattle.answers.specs.Limits.{maxFrame, maxLinks, maxDeadline, maxPeriod, maxBits, outside}
+use Rattle.answers.specs.Numbers.{FRAME-OUT-OF-RANGE, LINKS-OUT-OF-RANGE, DEADLINE-OUT-OF-RANGE, PERIOD-OUT-OF-RANGE, PERIOD-DOES-NOT-FIT, BITS-OUT-OF-RANGE, DELAY-OUT-OF-RANGE}
+use Rattle.answers.specs.Limits.{maxFrame, maxLinks, maxDelay, maxDeadline, maxPeriod, maxBits, outside}
 use Rattle.answers.specs.Lowest.{lowest}
-use Rattle.answers.specs.Answers.{Rule, refusal, doneWith, _when_, first}
+use Rattle.answers.specs.Sums.{sum}
+use Rattle.answers.specs.Answers.{Rule, refusal, doneWith, _when_, namingLowest, first}
 
--- the delay bound over h links, of h + 1 switches and one slot a link
-abbrev pub bound : ℕ → ℕ → ℕ
-bound M h = (M + 1) * h + M
+-- the delay of a link, in slots, by its place in the list of delays, from 0
+abbrev pub delayOf : List ℕ → ℕ → ℕ
+delayOf D link = getD D link 0
+
+-- the delays of all links of a list together
+abbrev pub delaySum : List ℕ → ℕ
+delaySum D = sum (length D) (delayOf D)
+
+-- the delay bound over the links of a list, h of them: a frame for each of h + 1 switches, and the links' delays
+abbrev pub bound : ℕ → List ℕ → ℕ
+bound M D = (length D + 1) * M + delaySum D
 
 -- the margin: the deadline less the bound, below zero where the bound is past the deadline
-abbrev pub marginOf : ℕ → ℕ → ℕ → ℤ
-marginOf M h H = pos H -ℤ pos (bound M h)
+abbrev pub marginOf : ℕ → List ℕ → ℕ → ℤ
+marginOf M D H = pos H -ℤ pos (bound M D)
 
 -- z divided by d, rounded down, below zero too: -(a + 1) rounds down to -(a/d + 1)
 abbrev pub floorDiv : ℤ → ℕ → ℤ
 floorDiv (pos a) d = pos (a / d)
 floorDiv (negsuc a) d = negsuc (a / d)
 
--- the link room: (H - M)/(M + 1) rounded down, the minus kept
-abbrev pub roomOf : ℕ → ℕ → ℤ
-roomOf M H = floorDiv (pos H -ℤ pos M) (M + 1)
+-- the link room for links of one common delay d: (H - M)/(M + d) rounded down, the minus kept
+abbrev pub roomOf : ℕ → ℕ → ℕ → ℤ
+roomOf M d H = floorDiv (pos H -ℤ pos M) (M + d)
 
 -- the least c with c times d at least n: n/d rounded up
 unfoldable pub leastTimes : ℕ → ℕ → ℕ
@@ -51,26 +61,36 @@ carriedBits = cellBits - labelBits
 abbrev pub cellsFor : ℕ → ℕ
 cellsFor bits = leastTimes carriedBits bits
 
--- margin: order 1, 15, 16
-abbrev pub marginRules : ℕ → ℕ → ℕ → List Rule
-marginRules M h H =
+-- refusal 25: a delay is not one that a link can have
+abbrev pub delayOutOfRange : ℕ → Bool
+delayOutOfRange d = outside 1 maxDelay d
+
+-- the same of the link at a place
+abbrev pub linkOutOfRange : List ℕ → ℕ → Bool
+linkOutOfRange D link = delayOutOfRange (delayOf D link)
+
+-- margin: order 1, 15, 16, 25
+abbrev pub marginRules : ℕ → List ℕ → ℕ → List Rule
+marginRules M D H =
     (refusal FRAME-OUT-OF-RANGE when outside 1 maxFrame M)
-    ∷ (refusal LINKS-OUT-OF-RANGE when outside 0 maxLinks h)
+    ∷ (refusal LINKS-OUT-OF-RANGE when outside 0 maxLinks (length D))
     ∷ (refusal DEADLINE-OUT-OF-RANGE when outside 0 maxDeadline H)
+    ∷ namingLowest DELAY-OUT-OF-RANGE 0 (length D) (linkOutOfRange D)
     ∷ []
 
-unfoldable pub marginAnswer : ℕ → ℕ → ℕ → Answer
-marginAnswer M h H = first (marginRules M h H) (doneWith (marginOf M h H))
+unfoldable pub marginAnswer : ℕ → List ℕ → ℕ → Answer
+marginAnswer M D H = first (marginRules M D H) (doneWith (marginOf M D H))
 
--- room: order 1, 16
-abbrev pub roomRules : ℕ → ℕ → List Rule
-roomRules M H =
+-- room: order 1, 16, 25
+abbrev pub roomRules : ℕ → ℕ → ℕ → List Rule
+roomRules M d H =
     (refusal FRAME-OUT-OF-RANGE when outside 1 maxFrame M)
     ∷ (refusal DEADLINE-OUT-OF-RANGE when outside 0 maxDeadline H)
+    ∷ (refusal DELAY-OUT-OF-RANGE when delayOutOfRange d)
     ∷ []
 
-unfoldable pub roomAnswer : ℕ → ℕ → Answer
-roomAnswer M H = first (roomRules M H) (doneWith (roomOf M H))
+unfoldable pub roomAnswer : ℕ → ℕ → ℕ → Answer
+roomAnswer M d H = first (roomRules M d H) (doneWith (roomOf M d H))
 
 -- fit: order 1, 17, 18
 abbrev pub fitRules : ℕ → ℕ → ℕ → List Rule

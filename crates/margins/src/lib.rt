@@ -2,11 +2,13 @@
 use answers::Answer;
 use answers::BITS_OUT_OF_RANGE;
 use answers::DEADLINE_OUT_OF_RANGE;
+use answers::DELAY_OUT_OF_RANGE;
 use answers::DONE;
 use answers::FRAME_OUT_OF_RANGE;
 use answers::LINKS_OUT_OF_RANGE;
 use answers::MAX_BITS;
 use answers::MAX_DEADLINE;
+use answers::MAX_DELAY;
 use answers::MAX_FRAME;
 use answers::MAX_LINKS;
 use answers::MAX_PERIOD;
@@ -15,8 +17,10 @@ use answers::PERIOD_OUT_OF_RANGE;
 ghost use mathlib.Core.Path.{_≡_};
 ghost use Prim.Native.Nat.{_<_, _≤_};
 ghost use lib.IntN.{pos, _-ℤ_};
+ghost use lib.ListN.{length};
 ghost use Rattle.answers.specs.Limits.{maxFrame, maxLinks, maxDeadline, Within};
-ghost use Rattle.margins.specs.Margins.{bound, marginOf, floorDiv, roomOf, leastTimes, marginAnswer, roomAnswer, fitAnswer, cellsAnswer};
+ghost use Rattle.answers.specs.Lowest.{lowest};
+ghost use Rattle.margins.specs.Margins.{delaySum, bound, delayOutOfRange, linkOutOfRange, marginOf, floorDiv, roomOf, leastTimes, marginAnswer, roomAnswer, fitAnswer, cellsAnswer};
 
 // The bits of a cell.
 const CELL_BITS: usize = 500;
@@ -58,33 +62,72 @@ fn least_times(d: usize, n: usize) -> usize
     (n - 1) / d + 1
 }
 
-// The delay bound over some links.
-fn delay_bound(frame: usize, links: usize) -> usize
-    requires { ⌜ (frame ≤ maxFrame) × (links ≤ maxLinks) ⌝ }
-    ensures { λ r. ⌜ r ≡ bound frame links ⌝ }
+// Refusal 25 of one delay.
+fn delay_out_of_range(delay: usize) -> bool
+    ensures { λ r. ⌜ r ≡ delayOutOfRange delay ⌝ }
 {
-    (frame + 1) * links + frame
+    answers::outside(1, MAX_DELAY, delay)
 }
 
-// How many slots before the deadline the last cell is in; below zero where it is late.
-pub fn margin(frame: usize, links: usize, deadline: usize) -> Answer
-    ensures { λ r. ⌜ r ≡ marginAnswer frame links deadline ⌝ }
+// The place, from 0, of the first delay that refusal 25 names, or the list's length.
+fn first_out_of_range(delays: &[u16]) -> usize
+    ensures { λ r. ⌜ r ≡ lowest 0 (length (now (delays .entry))) (linkOutOfRange (now (delays .entry))) ⌝ }
+{
+    let mut link = 0;
+    while link < delays.len() {
+        if delay_out_of_range(delays[link] as usize) {
+            return link;
+        }
+        link += 1;
+    }
+    link
+}
+
+// The delays of all links together. That they are 16-bit numbers and not too many is enough for the sum not to wrap: it need not be known that they are in range.
+fn delay_sum(delays: &[u16]) -> usize
+    requires { ⌜ length (now delays) ≤ maxLinks ⌝ }
+    ensures { λ r. ⌜ r ≡ delaySum (now (delays .entry)) ⌝ }
+{
+    let mut total = 0;
+    let mut passed = 0;
+    while passed < delays.len() {
+        total += delays[passed] as usize;
+        passed += 1;
+    }
+    total
+}
+
+// The delay bound over links with these delays.
+fn delay_bound(frame: usize, delays: &[u16]) -> usize
+    requires { ⌜ (frame ≤ maxFrame) × (length (now delays) ≤ maxLinks) ⌝ }
+    ensures { λ r. ⌜ r ≡ bound frame (now (delays .entry)) ⌝ }
+{
+    (delays.len() + 1) * frame + delay_sum(delays)
+}
+
+// How many slots before the deadline the last cell is in, over links with these delays; below zero where it is late.
+pub fn margin(frame: usize, delays: &[u16], deadline: usize) -> Answer
+    ensures { λ r. ⌜ r ≡ marginAnswer frame (now (delays .entry)) deadline ⌝ }
 {
     if answers::outside(1, MAX_FRAME, frame) {
         return answers::refusal(FRAME_OUT_OF_RANGE);
     }
-    if answers::outside(0, MAX_LINKS, links) {
+    if answers::outside(0, MAX_LINKS, delays.len()) {
         return answers::refusal(LINKS_OUT_OF_RANGE);
     }
     if answers::outside(0, MAX_DEADLINE, deadline) {
         return answers::refusal(DEADLINE_OUT_OF_RANGE);
     }
-    answers::detailed(DONE, less(deadline, delay_bound(frame, links)))
+    let link = first_out_of_range(delays);
+    if link < delays.len() {
+        return answers::naming(DELAY_OUT_OF_RANGE, link);
+    }
+    answers::detailed(DONE, less(deadline, delay_bound(frame, delays)))
 }
 
-// How many links the deadline leaves room for; below zero where it leaves none for the frame itself.
-pub fn room(frame: usize, deadline: usize) -> Answer
-    ensures { λ r. ⌜ r ≡ roomAnswer frame deadline ⌝ }
+// How many links of one common delay the deadline leaves room for; below zero where it leaves none for the frame itself.
+pub fn room(frame: usize, delay: usize, deadline: usize) -> Answer
+    ensures { λ r. ⌜ r ≡ roomAnswer frame delay deadline ⌝ }
 {
     if answers::outside(1, MAX_FRAME, frame) {
         return answers::refusal(FRAME_OUT_OF_RANGE);
@@ -92,7 +135,10 @@ pub fn room(frame: usize, deadline: usize) -> Answer
     if answers::outside(0, MAX_DEADLINE, deadline) {
         return answers::refusal(DEADLINE_OUT_OF_RANGE);
     }
-    answers::detailed(DONE, floor_div(less(deadline, frame), frame + 1))
+    if delay_out_of_range(delay) {
+        return answers::refusal(DELAY_OUT_OF_RANGE);
+    }
+    answers::detailed(DONE, floor_div(less(deadline, frame), frame + delay))
 }
 
 // The cells per frame that some cells every period need.
