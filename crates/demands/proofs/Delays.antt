@@ -1,5 +1,5 @@
 -- Delays: the proofs of what `specs/Delays.antt` states.
-use Prim.Native.Nat.{ℕ, zero, suc, _+_, _-_, _*_, _/_, _%_, _≤_, _<_}
+use Prim.Native.Nat.{ℕ, zero, suc, _+_, _-_, _*_, _/_, _≤_, _<_}
 use mathlib.Core.Path.{_≡_, refl, sym, _∙_, ap, subst}
 use mathlib.Core.Logic.{_↔_, _⊎_, inl, inr}
 use mathlib.Core.Bool.{Bool, true, false, cond, true≢false}
@@ -10,7 +10,7 @@ use borrow.Author.Tests.{ltb-true, ltb-false, eqb-false}
 use lib.Dec.{T, leb, ltb, eqb, le→leb, leb→le, lt→ltb}
 use lib.ListN.{length, replicate}
 use lib.IntN.{ℤ, pos, negsuc, sucℤ, negℤ, _-ℤ_, _*ℤ_}
-use lib.Signed.{_≤ℤ_, _<ℤ_, leZ, ltZ, mag}
+use lib.Signed.{_≤ℤ_, _<ℤ_, mag}
 use Rattle.answers.specs.declared.Answer.{Answer}
 use Rattle.answers.specs.Numbers.{DONE, FRAME-OUT-OF-RANGE, LINKS-OUT-OF-RANGE, DEADLINE-OUT-OF-RANGE, DELAY-OUT-OF-RANGE}
 use Rattle.answers.specs.Limits.{maxFrame, maxLinks, maxDelay, maxDeadline, maxBits, outside, Within}

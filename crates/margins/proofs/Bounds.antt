@@ -13,7 +13,7 @@ use Rattle.answers.specs.Sums.{sum}
 use Rattle.answers.proofs.Lowest.{somewhere-false}
 use Rattle.answers.proofs.Ranges.{inside}
 use Rattle.answers.proofs.Sums.{sum-agree, sum-const, sum-at-most}
-use Rattle.margins.specs.Margins.{delayOf, delaySum, bound, linkOutOfRange}
+use Rattle.margins.specs.Margins.{delayOf, bound, linkOutOfRange}
 
 -- where refusal 25 is not due, every delay is one that a link can have
 pub delays-in-range : (D : List ℕ) → holdsSomewhere 0 (length D) (linkOutOfRange D) ≡ false → (k : ℕ) → k < length D → Within 1 maxDelay (delayOf D k)

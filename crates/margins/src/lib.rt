@@ -18,9 +18,9 @@ ghost use mathlib.Core.Path.{_≡_};
 ghost use Prim.Native.Nat.{_<_, _≤_};
 ghost use lib.IntN.{pos, _-ℤ_};
 ghost use lib.ListN.{length};
-ghost use Rattle.answers.specs.Limits.{maxFrame, maxLinks, maxDeadline, Within};
+ghost use Rattle.answers.specs.Limits.{maxFrame, maxLinks, maxDeadline};
 ghost use Rattle.answers.specs.Lowest.{lowest};
-ghost use Rattle.margins.specs.Margins.{delaySum, bound, delayOutOfRange, linkOutOfRange, marginOf, floorDiv, roomOf, leastTimes, marginAnswer, roomAnswer, fitAnswer, cellsAnswer};
+ghost use Rattle.margins.specs.Margins.{delaySum, bound, delayOutOfRange, linkOutOfRange, floorDiv, leastTimes, marginAnswer, roomAnswer, fitAnswer, cellsAnswer};
 
 // The bits of a cell.
 const CELL_BITS: usize = 500;
@@ -69,7 +69,7 @@ fn delay_out_of_range(delay: usize) -> bool
     answers::outside(1, MAX_DELAY, delay)
 }
 
-// The place, from 0, of the first delay that refusal 25 names, or the list's length.
+// The lowest place that refusal 25 names, from 0, or the list's length.
 fn first_out_of_range(delays: &[u16]) -> usize
     ensures { λ r. ⌜ r ≡ lowest 0 (length (now (delays .entry))) (linkOutOfRange (now (delays .entry))) ⌝ }
 {

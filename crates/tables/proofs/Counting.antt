@@ -1,5 +1,5 @@
 -- The load of a port, counted in an accepted table slot by slot; so an accepted table asks no port for more than the frame.
-use Prim.Native.Nat.{ℕ, zero, suc, _+_, _*_, _≤_, _<_}
+use Prim.Native.Nat.{ℕ, zero, suc, _≤_, _<_}
 use mathlib.Core.Path.{_≡_, refl, sym, _∙_, ap}
 use mathlib.Core.Logic.{_⊎_, inl, inr}
 use mathlib.Core.Bool.{Bool, true, false, cond, not, _&&_, true≢false}
@@ -9,10 +9,9 @@ use native.Mathlib.Decide.{ℕ-discrete}
 use native.Mathlib.Nat.{mul-one}
 use borrow.Author.Tests.{eq-eqb, ne-eqb, eqb-true, eqb-false}
 use lib.Dec.{eqb}
-use lib.ListN.{getD}
 use Rattle.answers.specs.Sums.{sum, one}
 use Rattle.answers.proofs.Sums.{sum-agree, sum-at-most, sum-zero, sum-swap, sum-change, count-once}
-use Rattle.flows.specs.Flows.{flowCount, IsFlow, inputOf, outputOf, cellsOf, comesFrom, goesTo, inputLoad, outputLoad, Fitting}
+use Rattle.flows.specs.Flows.{flowCount, inputOf, outputOf, cellsOf, comesFrom, goesTo, inputLoad, outputLoad, Fitting}
 use Rattle.tables.specs.Accepted.{entry, times, FlowOf, Accepted}
 
 -- 1 where the entry is a flow of which the test holds, else 0
