@@ -5,7 +5,7 @@ use mathlib.Core.Logic.{_↔_}
 use mathlib.Core.Bool.{Bool, true, false, cond, not, _&&_, true≢false, false≢true}
 use mathlib.Core.List.{List, [], _∷_, _++_}
 use native.Mathlib.Omega.{arith}
-use borrow.Author.Tests.{eq-eqb, lt-ltb, le-ltb, ltb-true}
+use borrow.Author.Tests.{eq-eqb, lt-ltb, ltb-true}
 use lib.Signed.{mag}
 use lib.IntN.{pos}
 use lib.Dec.{eqb, T}
@@ -13,7 +13,7 @@ use Rattle.answers.specs.declared.Answer.{Answer}
 use Rattle.answers.specs.Answers.{Rule, answer, doneWith, namingLowest, first}
 use Rattle.answers.specs.Numbers.{DONE}
 use Rattle.answers.specs.Lowest.{lowest, holdsSomewhere, IsLowest}
-use Rattle.answers.proofs.Lowest.{lowest-is, lowest-found, somewhere-false, nowhere-test}
+use Rattle.answers.proofs.Lowest.{lowest-is, lowest-found, past-range, somewhere-false, nowhere-test}
 
 -- none of the conditions holds
 abbrev pub NoneHolds : List Rule → Type 0
@@ -95,7 +95,7 @@ module _ (from count : ℕ) (test : ℕ → Bool) (k : ℕ) (e : k ≡ lowest fr
       ∙ sym (ap (λ (b : Bool). cond b (answer n (pos (lowest from count test))) rest) (lt-ltb (lowest from count test) (from + count) (omega arith)))
 
   pub lowest-passed : (x rest : Answer) → from + count ≤ k → rest ≡ cond (holdsSomewhere from count test) x rest
-  lowest-passed x rest u = sym (ap (λ (b : Bool). cond b x rest) (le-ltb (lowest from count test) (from + count) (omega arith)))
+  lowest-passed x rest u = sym (ap (λ (b : Bool). cond b x rest) (past-range from count test k e u))
 
 -- a call whose order begins with that of another function asks that function first, and passes its refusal on or goes on with the rest
 first-on : (rs : List Rule) (more : List Rule) (d : Answer) → NoneHolds rs → first (rs ++ more) d ≡ first more d

@@ -69,8 +69,12 @@ pub somewhere-false : (from count : ℕ) (test : ℕ → Bool) → holdsSomewher
 somewhere-false from count test e k l u =
     lowest-found from count test .none-lower k l (omega (arith, ltb-false (lowest from count test) (from + count) e))
 
+-- what is found past the range says that the test holds nowhere in it
+pub past-range : (from count : ℕ) (test : ℕ → Bool) (k : ℕ) → k ≡ lowest from count test → from + count ≤ k → holdsSomewhere from count test ≡ false
+past-range from count test k e u = le-ltb (lowest from count test) (from + count) (omega arith)
+
 pub nowhere-test : (from count : ℕ) (test : ℕ → Bool) → Nowhere from (from + count) test → holdsSomewhere from count test ≡ false
-nowhere-test from count test h = le-ltb (lowest from count test) (from + count) (omega (arith, lowest-none from count test h))
+nowhere-test from count test h = past-range from count test (from + count) (sym (lowest-none from count test h)) (omega arith)
 
 pub somewhere-test : (from count : ℕ) (test : ℕ → Bool) (k : ℕ) → from ≤ k → k < from + count → test k ≡ true → holdsSomewhere from count test ≡ true
 somewhere-test from count test k l u t = go (holdsSomewhere from count test) refl

@@ -5,10 +5,9 @@ use mathlib.Core.Bool.{false}
 use mathlib.Core.List.{List}
 use native.Mathlib.Omega.{arith}
 use native.Mathlib.Nat.{mul-le-mul}
-use borrow.Author.Tests.{le-ltb}
 use lib.ListN.{length, replicate, length-replicate, getD-replicate}
 use Rattle.answers.specs.Limits.{maxFrame, maxLinks, maxDelay, Within}
-use Rattle.answers.specs.Lowest.{lowest, holdsSomewhere}
+use Rattle.answers.specs.Lowest.{holdsSomewhere}
 use Rattle.answers.specs.Sums.{sum}
 use Rattle.answers.proofs.Lowest.{somewhere-false}
 use Rattle.answers.proofs.Ranges.{inside}
@@ -16,12 +15,8 @@ use Rattle.answers.proofs.Sums.{sum-agree, sum-const, sum-at-most}
 use Rattle.margins.specs.Margins.{delayOf, bound, linkOutOfRange}
 
 -- where refusal 25 is not due, every delay is one that a link can have
-pub delays-in-range : (D : List ℕ) → holdsSomewhere 0 (length D) (linkOutOfRange D) ≡ false → (k : ℕ) → k < length D → Within 1 maxDelay (delayOf D k)
+delays-in-range : (D : List ℕ) → holdsSomewhere 0 (length D) (linkOutOfRange D) ≡ false → (k : ℕ) → k < length D → Within 1 maxDelay (delayOf D k)
 delays-in-range D e k u = inside {low = 1} {high = maxDelay} {x = delayOf D k} (somewhere-false 0 (length D) (linkOutOfRange D) e k (omega arith) (omega arith))
-
--- a search that passed every link found none
-pub none-found : (D : List ℕ) (k : ℕ) → k ≡ lowest 0 (length D) (linkOutOfRange D) → length D ≤ k → holdsSomewhere 0 (length D) (linkOutOfRange D) ≡ false
-none-found D k e u = le-ltb (lowest 0 (length D) (linkOutOfRange D)) (0 + length D) (omega (arith, e))
 
 -- the longest frame over the most links, each of the longest delay, is the most that the bound can be
 pub bound-at-most : (M : ℕ) (D : List ℕ) → M ≤ maxFrame → length D ≤ maxLinks → holdsSomewhere 0 (length D) (linkOutOfRange D) ≡ false

@@ -1,6 +1,6 @@
 -- `margins::margin` meets its contract: each way out rewrites by what was found on the way.
 use Rattle.margins.specs.Margins.{linkOutOfRange, marginAnswer}
-use Rattle.margins.proofs.Bounds.{none-found, bound-at-most}
+use Rattle.margins.proofs.Bounds.{bound-at-most}
 use Rattle.answers.specs.Limits.{maxFrame, maxLinks, maxDeadline}
 use Rattle.answers.specs.Numbers.{DELAY-OUT-OF-RANGE}
 use lib.ListN.{length}
@@ -10,6 +10,7 @@ use mir.ValLaws.{toZ-ofZ}
 use Rattle.answers.specs.Answers.{doneWith}
 use Prim.Native.Nat.{ℕ, _≤_}
 use Rattle.answers.proofs.First.{lowest-named, lowest-passed}
+use Rattle.answers.proofs.Lowest.{past-range}
 use Rattle.answers.proofs.Ranges.{inside}
 use native.Mathlib.Omega.{arith}
 use mathlib.Core.Path.{sym, ap, _∙_}
@@ -74,7 +75,7 @@ less-requires c κs =
     let a = c .before .before .before .before .before .before .before .before .before .before .args in
     let frames : a .frame ≤ maxFrame = inside {low = 1} {high = maxFrame} {x = a .frame} (sym (c .before .before .before .before .before .before .before .before .outside .ensures) ∙ c .before .before .before .before .before .before .before .if1 .left) .at-most in
     let links : length (a .delays .now) ≤ maxLinks = inside {low = 0} {high = maxLinks} {x = length (a .delays .now)} (sym (c .before .before .before .before .before .before .outside2 .ensures) ∙ c .before .before .before .before .before .if2 .left) .at-most in
-    let none = none-found (a .delays .now) _ (c .before .before .first-out-of-range .ensures) (omega arith) in (
+    let none = past-range 0 (length (a .delays .now)) (linkOutOfRange (a .delays .now)) _ (c .before .before .first-out-of-range .ensures) (omega arith) in (
       inside {low = 0} {high = maxDeadline} {x = a .deadline} (sym (c .before .before .before .before .outside3 .ensures) ∙ c .before .before .before .if3 .left) .at-most,
       omega (arith, c .delay-bound .ensures, bound-at-most (a .frame) (a .delays .now) frames links none),
     )
