@@ -2,7 +2,7 @@
 use Prim.Native.Nat.{ℕ, _+_, _≤_, _<_}
 use mathlib.Core.Path.{_≡_, refl, sym, _∙_, ap, subst}
 use mathlib.Core.Logic.{_↔_}
-use mathlib.Core.Bool.{Bool, true, false, cond, not, _&&_, true≢false, false≢true}
+use mathlib.Core.Bool.{Bool, true, false, cond, not, _&&_, true≢false}
 use mathlib.Core.List.{List, [], _∷_, _++_}
 use native.Mathlib.Omega.{arith}
 use borrow.Author.Tests.{eq-eqb, lt-ltb, ltb-true}
@@ -10,7 +10,7 @@ use lib.Signed.{mag}
 use lib.IntN.{pos}
 use lib.Dec.{eqb, T}
 use Rattle.answers.specs.declared.Answer.{Answer}
-use Rattle.answers.specs.Answers.{Rule, answer, doneWith, namingLowest, first}
+use Rattle.answers.specs.Answers.{Rule, answer, doneWith, tellingOfLowest, namingLowest, first}
 use Rattle.answers.specs.Numbers.{DONE}
 use Rattle.answers.specs.Lowest.{lowest, holdsSomewhere, IsLowest}
 use Rattle.answers.proofs.Lowest.{lowest-is, lowest-found, past-range, somewhere-false, nowhere-test}
@@ -87,12 +87,16 @@ given-exactly n earlier r later d e before after last = (back earlier before, λ
 pub done-exactly : (n : ℕ) (rs : List Rule) (d : Answer) → d .number ≡ n → T (lacks n rs) → ((first rs d) .number ≡ n) ↔ NoneHolds rs
 done-exactly n rs d e t = (λ x. lacked n rs d t x .0, λ h. ap (λ (a : Answer). a .number) (first-none rs d h) ∙ e)
 
--- a search that found k tells whether a refusal that names the lowest is given, and which number it names
+-- a search that found k tells whether a refusal that names the lowest is given, which number it names, and what is told of it
 module _ (from count : ℕ) (test : ℕ → Bool) (k : ℕ) (e : k ≡ lowest from count test) where
+  pub lowest-told : (n : ℕ) (told : ℕ → ℕ) (rest : Answer) → k < from + count
+      → answer n (pos (told k)) ≡ cond (holdsSomewhere from count test) (answer n (pos (told (lowest from count test)))) rest
+  lowest-told n told rest u =
+      ap (λ (x : ℕ). answer n (pos (told x))) e
+      ∙ sym (ap (λ (b : Bool). cond b (answer n (pos (told (lowest from count test)))) rest) (lt-ltb (lowest from count test) (from + count) (omega arith)))
+
   pub lowest-named : (n : ℕ) (rest : Answer) → k < from + count → answer n (pos k) ≡ cond (holdsSomewhere from count test) (answer n (pos (lowest from count test))) rest
-  lowest-named n rest u =
-      ap (λ (x : ℕ). answer n (pos x)) e
-      ∙ sym (ap (λ (b : Bool). cond b (answer n (pos (lowest from count test))) rest) (lt-ltb (lowest from count test) (from + count) (omega arith)))
+  lowest-named n rest u = lowest-told n (λ x. x) rest u
 
   pub lowest-passed : (x rest : Answer) → from + count ≤ k → rest ≡ cond (holdsSomewhere from count test) x rest
   lowest-passed x rest u = sym (ap (λ (b : Bool). cond b x rest) (past-range from count test k e u))
@@ -146,26 +150,33 @@ module _
           none-lower = λ j a l p. true≢false (sym (means j a (omega arith) p) ∙ f .none-lower j a l);
         }
 
+    -- is given with the detail v exactly when no earlier condition holds and v is what is told of the lowest
+    pub told-exactly : (told : ℕ → ℕ) (earlier later : List Rule) (d : Answer) (v : ℕ) → T (lacks n earlier) → T (lacks n later) → T (not (eqb (d .number) n))
+        → (first (earlier ++ tellingOfLowest n told from count test ∷ later) d ≡ answer n (pos v)) ↔ (NoneHolds earlier × ((k : ℕ) × IsLowest from count P k × (told k ≡ v)))
+    told-exactly told earlier later d v before after last = (out, back)
+      where
+        rule : Rule
+        rule = tellingOfLowest n told from count test
+
+        out : first (earlier ++ rule ∷ later) d ≡ answer n (pos v) → NoneHolds earlier × ((k : ℕ) × IsLowest from count P k × (told k ≡ v))
+        out e =
+            let h = given-exactly n earlier rule later d refl before after last .0 (ap (λ (a : Answer). a .number) e) in
+            let same : told (lowest from count test) ≡ v =
+            ap (λ (a : Answer). mag (a .detail)) (sym (first-given earlier rule later d (h .0) (h .1)) ∙ e) in
+            (h .0, (lowest from count test, test-lowest (h .1), same))
+
+        back : NoneHolds earlier × ((k : ℕ) × IsLowest from count P k × (told k ≡ v)) → first (earlier ++ rule ∷ later) d ≡ answer n (pos v)
+        back h =
+            let same = lowest-test (h .1 .0) (h .1 .1) in
+            first-given earlier rule later d (h .0) (lt-ltb (lowest from count test) (from + count) (omega (arith, h .1 .1 .high)))
+            ∙ ap (λ (x : ℕ). answer n (pos x)) (ap told same ∙ h .1 .2)
+
     -- is given, naming k, exactly when no earlier condition holds and k is the lowest
     pub named-exactly : (earlier later : List Rule) (d : Answer) (k : ℕ) → T (lacks n earlier) → T (lacks n later) → T (not (eqb (d .number) n))
         → (first (earlier ++ namingLowest n from count test ∷ later) d ≡ answer n (pos k)) ↔ (NoneHolds earlier × IsLowest from count P k)
-    named-exactly earlier later d k before after last = (out, back)
-      where
-        rule : Rule
-        rule = namingLowest n from count test
-
-        out : first (earlier ++ rule ∷ later) d ≡ answer n (pos k) → NoneHolds earlier × IsLowest from count P k
-        out e =
-            let h = given-exactly n earlier rule later d refl before after last .0 (ap (λ (a : Answer). a .number) e) in
-            let same : lowest from count test ≡ k =
-            ap (λ (a : Answer). mag (a .detail)) (sym (first-given earlier rule later d (h .0) (h .1)) ∙ e) in
-            (h .0, subst (λ (x : ℕ). IsLowest from count P x) same (test-lowest (h .1)))
-
-        back : NoneHolds earlier × IsLowest from count P k → first (earlier ++ rule ∷ later) d ≡ answer n (pos k)
-        back h =
-            let same = lowest-test k (h .1) in
-            first-given earlier rule later d (h .0) (lt-ltb (lowest from count test) (from + count) (omega (arith, h .1 .high)))
-            ∙ ap (λ (x : ℕ). answer n (pos x)) same
+    named-exactly earlier later d k before after last =
+        let law = told-exactly (λ x. x) earlier later d k before after last in
+        (λ e. let h = law .0 e in (h .0, subst (λ (x : ℕ). IsLowest from count P x) (h .1 .2) (h .1 .1)), λ h. law .1 (h .0, (k, h .1, refl)))
 
     -- is not due exactly when P is true of no number of the range
     pub not-named : holdsSomewhere from count test ≡ false → (k : ℕ) → from ≤ k → k < from + count → P k → ⊥

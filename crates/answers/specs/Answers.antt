@@ -28,9 +28,13 @@ infix 20 _when_
 abbrev pub _when_ : Answer → Bool → Rule
 a when t = record { refused = a; holds = t }
 
--- the refusal that names the lowest of from, from + 1, .. (count of them) at which the test holds
+-- the refusal that tells something, say a place, of the lowest of from, from + 1, .. (count of them) at which the test holds
+abbrev pub tellingOfLowest : ℕ → (ℕ → ℕ) → ℕ → ℕ → (ℕ → Bool) → Rule
+tellingOfLowest n told from count test = answer n (pos (told (lowest from count test))) when holdsSomewhere from count test
+
+-- the refusal that names it
 abbrev pub namingLowest : ℕ → ℕ → ℕ → (ℕ → Bool) → Rule
-namingLowest n from count test = answer n (pos (lowest from count test)) when holdsSomewhere from count test
+namingLowest n from count test = tellingOfLowest n (λ k. k) from count test
 
 -- the first refusal whose condition holds, in the list's order; where none does, the answer given last
 abbrev pub first : List Rule → Answer → Answer

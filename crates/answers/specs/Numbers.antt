@@ -99,3 +99,7 @@ BITS-OUT-OF-RANGE = 23
 -- a link's delay is not 1 to its limit; detail: the place, from 0, of the lowest such in a list of delays, and 0 for one that stands for all links
 abbrev pub DELAY-OUT-OF-RANGE : ℕ
 DELAY-OUT-OF-RANGE = 25
+
+-- an entry at the record's position is above the number of waiting counts; detail: the place in the table, from 0, of the lowest output's such entry
+abbrev pub ENTRY-ABOVE-COUNTS : ℕ
+ENTRY-ABOVE-COUNTS = 28

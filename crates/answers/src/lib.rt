@@ -62,6 +62,8 @@ pub const BITS_OUT_OF_RANGE: u32 = 23;
 
 pub const DELAY_OUT_OF_RANGE: u32 = 25;
 
+pub const ENTRY_ABOVE_COUNTS: u32 = 28;
+
 pub const MAX_FRAME: usize = 2048;
 
 pub const MAX_PORTS: usize = 32;
