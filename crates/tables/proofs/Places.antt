@@ -17,3 +17,6 @@ size-of m n = mul-le-mul (n .at-most) (m .at-most)
 
 pub size-bound : {M N : ℕ} {T : List ℕ} → Holds M N T → N * M ≤ maxPorts * maxFrame
 size-bound h = size-of (h .frame-in-range) (h .ports-in-range)
+
+pub place-bound : {M N : ℕ} {T : List ℕ} → Holds M N T → (r s : ℕ) → r < N → s < M → r * M + s < maxPorts * maxFrame
+place-bound {M} {N} {T} h r s lr ls = omega (arith, digits-lt {q = r} {m = N} {r = s} {c = M} lr ls, size-bound h)

@@ -6,14 +6,13 @@ use answers::ENTRY_NOT_OF_ROW;
 use answers::INPUT_TWICE_IN_SLOT;
 use answers::TABLE_TOO_SHORT;
 ghost use mathlib.Core.Path.{_≡_};
-ghost use Prim.Native.Nat.{ℕ, _+_, _*_, _<_, _≤_};
-ghost use lib.ListN.{length, getD};
+ghost use Prim.Native.Nat.{_+_, _*_, _<_, _≤_};
+ghost use lib.ListN.{length};
 ghost use Rattle.answers.specs.Limits.{maxPorts, maxFrame, maxFlows};
 ghost use Rattle.answers.specs.Lowest.{lowest, holdsSomewhere};
-ghost use Rattle.answers.specs.Sums.{sum, one};
 ghost use Rattle.flows.specs.Flows.{flowCount};
 ghost use Rattle.tables.specs.Accepted.{entry};
-ghost use Rattle.tables.specs.Check.{noFlowOf, notOfRow, shareInput, inputTwice, countWrong, countIn, checkAnswer, entriesAnswer, Holds, Counted};
+ghost use Rattle.tables.specs.Check.{noFlowOf, notOfRow, shareInput, inputTwice, countWrong, checkAnswer, entriesAnswer, Holds, Counted};
 
 fn wide(x: u8) -> usize
     ensures { λ r. ⌜ r ≡ x ⌝ }
@@ -22,7 +21,7 @@ fn wide(x: u8) -> usize
 }
 
 // What stands in a row at a slot.
-fn entry_at(frame: usize, table: &[u8], row: usize, slot: usize) -> usize
+pub fn entry_at(frame: usize, table: &[u8], row: usize, slot: usize) -> usize
     requires { ⌜ row * frame + slot < length (now table) ⌝ }
     ensures { λ r. ⌜ r ≡ entry frame (now (table .entry)) row slot ⌝ }
 {
