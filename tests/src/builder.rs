@@ -147,7 +147,7 @@ fn demand_of(plan: &Plan) -> Demand {
 }
 
 /// An accepted table for a plan whose loads fit: a pair's slots go to its flows in turn.
-fn table_of(plan: &Plan) -> Vec<u8> {
+pub fn table_of(plan: &Plan) -> Vec<u8> {
     let (frame, ports) = (plan.frame as usize, plan.ports as usize);
     let schedule = Schedule::of(frame, &demand_of(plan));
     let mut left: Vec<u32> = plan.flows.iter().map(|f| f.cells).collect();

@@ -379,7 +379,7 @@ mod tests {
     fn nearly_every_answer_is_met() {
         let wanted = "margin 0 1 15 16 25;room 0 1 16 25;fit 0 1 17 18;cells 0 23;\
              check 1 2 3 4 7 8 10;row 0 1 2 7 22;start 0 1 2 12;offer 0 12 13 14;\
-             slot 0 7 12;write 0 1 2 3 4 21;read 0 20 21;accept 0 8 9 10;other 0 1 2 7 11";
+             slot 0 7 12 28;write 0 1 2 3 4 21;read 0 20 21;accept 0 8 9 10;other 0 1 2 7 11 28";
         let lines = lines();
         let met: BTreeSet<_> = lines
             .lines()

@@ -1,7 +1,8 @@
-// Runs cases of the documents: those that are not proved of the definitions, and the limits of the frame and of the links. Prints a line for each: what was asked, number, comma, detail.
+// Runs cases of the documents: those that are not proved of the definitions, the limits of the frame and of the links, and entries without a count. Prints a line for each: what was asked, number, comma, detail.
 use answers::Answer;
 use answers::MAX_FRAME;
 use answers::MAX_PORTS;
+use forwarding::Running;
 use libc::STDOUT_FILENO;
 
 fn print_detail(detail: i32) {
@@ -83,10 +84,33 @@ fn offers_at_the_limit() {
     print_answer(b"then offer 0", forwarding::offer(&mut waiting, 1, 0));
 }
 
+// Frame 2, ports 2, and flow 2 in output 2's last slot, which is place 3 of the table.
+fn slot_at(case: &[u8], position: usize, waiting: &mut [u16]) {
+    let mut table = [0u8; 4];
+    table[3] = 2;
+    let mut sent = [0u8; 2];
+    let running = Running {
+        frame: 2,
+        ports: 2,
+        position,
+    };
+    let after = forwarding::slot(running, &table, waiting, &mut sent);
+    print_answer(case, after.answer);
+}
+
+fn entries_without_a_count() {
+    let mut one = [1u16; 1];
+    slot_at(b"slot 1 with one count", 1, &mut one);
+    slot_at(b"slot 0 with one count", 0, &mut one);
+    let mut two = [1u16; 2];
+    slot_at(b"slot 1 with two counts", 1, &mut two);
+}
+
 fn main() {
     cells_of_messages();
     frames_at_their_limits();
     links_at_their_limits();
     tables_at_their_limits();
     offers_at_the_limit();
+    entries_without_a_count();
 }

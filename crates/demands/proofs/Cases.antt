@@ -1,5 +1,5 @@
 -- The cases: one test that is computed over the table, and one law that turns it into the claim of each row.
-use Prim.Native.Nat.{ℕ, suc, _*_}
+use Prim.Native.Nat.{ℕ, _*_}
 use mathlib.Core.Path.{_≡_, ap, _∙_}
 use mathlib.Core.Bool.{Bool, true, false, _&&_}
 use mathlib.Core.List.{List, [], _∷_}
@@ -14,7 +14,9 @@ use Rattle.margins.specs.Margins.{leastTimes, marginAnswer, roomAnswer, fitAnsw
 use Rattle.tables.specs.Accepted.{times}
 use Rattle.tables.specs.Check.{checkAnswer}
 use Rattle.builder.specs.Build.{buildAnswer}
-use Rattle.demands.specs.Cases.{Case, check, build, fit, margin, room, cells, Claim, AllHold, cases, CasesHold}
+use Rattle.forwarding.specs.Forwarding.{slotAnswer}
+use Rattle.forwarding.specs.Histories.{runningAt}
+use Rattle.demands.specs.Cases.{Case, check, build, fit, margin, room, cells, slot, Claim, AllHold, cases, CasesHold}
 
 abbrev sameZ : ℤ → ℤ → Bool
 sameZ (pos a) (pos b) = eqb a b
@@ -51,6 +53,7 @@ holds (fit M P C a) = same (fitAnswer M P C) a
 holds (margin M D H a) = same (marginAnswer M D H) a
 holds (room M d H a) = same (roomAnswer M d H) a
 holds (cells bits a) = same (cellsAnswer bits) a
+holds (slot M N p X W a) = same (slotAnswer (runningAt M N p) X W N) a
 
 one : (c : Case) → T (holds c) → Claim c
 one (check M N L X a) t = same-answer (checkAnswer M N L X) a t
@@ -59,6 +62,7 @@ one (fit M P C a) t = same-answer (fitAnswer M P C) a t
 one (margin M D H a) t = same-answer (marginAnswer M D H) a t
 one (room M d H a) t = same-answer (roomAnswer M d H) a t
 one (cells bits a) t = same-answer (cellsAnswer bits) a t
+one (slot M N p X W a) t = same-answer (slotAnswer (runningAt M N p) X W N) a t
 
 abbrev all : List Case → Bool
 all [] = true
@@ -69,5 +73,5 @@ each [] t = tt
 each (c ∷ cs) t = (one c (first (holds c) (all cs) t), each cs (second (holds c) (all cs) t))
 
 pub cases-hold : CasesHold
-unfolding checkAnswer buildAnswer marginAnswer roomAnswer fitAnswer cellsAnswer leastTimes lowest sum times inputLoad outputLoad
+unfolding checkAnswer buildAnswer marginAnswer roomAnswer fitAnswer cellsAnswer slotAnswer leastTimes lowest sum times inputLoad outputLoad
 cases-hold = each cases tt

@@ -3,8 +3,9 @@ use Rattle.forwarding.proofs.Shares as Shares
 use Rattle.forwarding.proofs.Isolation as Isolation
 use Rattle.forwarding.proofs.Count as Count
 use Rattle.forwarding.proofs.SentBuffer as SentBuffer
+use Rattle.forwarding.proofs.NeverAbove as NeverAbove
 use Rattle.forwarding.proofs.OneOutcome as Once
-use Rattle.demands.specs.Switch.{UpperShare, LowerShare, Isolation as FlowsApart, CellsKept, CellsShown, BytesPastStay, OneFreshStart, OneOffer, OneSlot}
+use Rattle.demands.specs.Switch.{UpperShare, LowerShare, Isolation as FlowsApart, CellsKept, CellsShown, BytesPastStay, NamesEntry, AcceptedAsBefore, NeverInWindow, OneFreshStart, OneOffer, OneSlot}
 
 pub at-most-its-reservation : UpperShare
 at-most-its-reservation = Shares.upper-share
@@ -23,6 +24,15 @@ sent-is-shown = SentBuffer.cells-shown
 
 pub bytes-past-stay : BytesPastStay
 bytes-past-stay = SentBuffer.bytes-past-stay
+
+pub names-entry : NamesEntry
+names-entry = NeverAbove.names-entry
+
+pub accepted-as-before : AcceptedAsBefore
+accepted-as-before = NeverAbove.accepted-as-before
+
+pub never-in-window : NeverInWindow
+never-in-window = NeverAbove.never-in-window
 
 pub one-fresh-start : OneFreshStart
 one-fresh-start = Once.one-fresh-start

@@ -1,15 +1,17 @@
--- The starred cases of document 01, and the cases of the frame's limit, of links that take longer and of the cells of a message, in one table.
+-- The starred cases of document 01, and the cases of the frame's limit, of links that take longer, of the cells of a message and of entries without a count, in one table.
 use Prim.Native.Nat.{ℕ, _*_}
 use mathlib.Core.Path.{_≡_}
 use mathlib.Core.List.{List, [], _∷_}
 use lib.IntN.{pos, negsuc}
 use lib.ListN.{replicate}
 use Rattle.answers.specs.declared.Answer.{Answer}
-use Rattle.answers.specs.Numbers.{FRAME-OUT-OF-RANGE, INPUT-OVERLOADED, OUTPUT-OVERLOADED, ENTRY-NOT-OF-ROW, INPUT-TWICE-IN-SLOT, COUNT-WRONG, LINKS-OUT-OF-RANGE, DEADLINE-OUT-OF-RANGE, PERIOD-OUT-OF-RANGE, PERIOD-DOES-NOT-FIT, DELAY-OUT-OF-RANGE}
+use Rattle.answers.specs.Numbers.{FRAME-OUT-OF-RANGE, INPUT-OVERLOADED, OUTPUT-OVERLOADED, ENTRY-NOT-OF-ROW, INPUT-TWICE-IN-SLOT, COUNT-WRONG, LINKS-OUT-OF-RANGE, DEADLINE-OUT-OF-RANGE, PERIOD-OUT-OF-RANGE, PERIOD-DOES-NOT-FIT, DELAY-OUT-OF-RANGE, POSITION-PAST-FRAME, ENTRY-ABOVE-COUNTS}
 use Rattle.answers.specs.Answers.{answer, refusal, doneWith}
 use Rattle.margins.specs.Margins.{marginAnswer, roomAnswer, fitAnswer, cellsAnswer}
 use Rattle.tables.specs.Check.{checkAnswer}
 use Rattle.builder.specs.Build.{buildAnswer}
+use Rattle.forwarding.specs.Forwarding.{slotAnswer}
+use Rattle.forwarding.specs.Histories.{runningAt}
 
 -- a call and the answer that the documents give for it
 pub data Case : Type 0 where
@@ -19,8 +21,9 @@ pub data Case : Type 0 where
   margin : ℕ → List ℕ → ℕ → Answer → Case
   room : ℕ → ℕ → ℕ → Answer → Case
   cells : ℕ → Answer → Case
+  slot : ℕ → ℕ → ℕ → List ℕ → List ℕ → Answer → Case
 
--- what a case claims: the call is answered so (a build is lent the N·M bytes of its table)
+-- what a case claims: the call is answered so (a build is lent the N·M bytes of its table, a slot a sent buffer of N)
 abbrev pub Claim : Case → Type 0
 Claim (check M N L T a) = checkAnswer M N L T ≡ a
 Claim (build M N L a) = buildAnswer M N L (N * M) ≡ a
@@ -28,6 +31,7 @@ Claim (fit M P C a) = fitAnswer M P C ≡ a
 Claim (margin M D H a) = marginAnswer M D H ≡ a
 Claim (room M d H a) = roomAnswer M d H ≡ a
 Claim (cells bits a) = cellsAnswer bits ≡ a
+Claim (slot M N p T W a) = slotAnswer (runningAt M N p) T W N ≡ a
 
 -- every case of a list holds
 abbrev pub AllHold : List Case → Type 0
@@ -41,6 +45,10 @@ planA = 1 ∷ 1 ∷ 3 ∷ 1 ∷ 2 ∷ 2 ∷ 2 ∷ 1 ∷ 2 ∷ []
 -- rows 2, 3 and 4 of plan A's tables: 0 0 0 2 2, then zeros
 abbrev pub otherRows : List ℕ
 otherRows = 0 ∷ 0 ∷ 0 ∷ 2 ∷ 2 ∷ 0 ∷ 0 ∷ 0 ∷ 0 ∷ 0 ∷ 0 ∷ 0 ∷ 0 ∷ 0 ∷ 0 ∷ []
+
+-- frame 2, ports 3: the entries are 1, 9 and 200 at position 0, and 2, 3 and 0 at position 1
+abbrev pub strangeTable : List ℕ
+strangeTable = 1 ∷ 2 ∷ 9 ∷ 3 ∷ 200 ∷ 0 ∷ []
 
 abbrev pub cases : List Case
 cases =
@@ -99,6 +107,18 @@ cases =
     ∷ cells 480 (doneWith (pos 1))
     ∷ cells 481 (doneWith (pos 2))
     ∷ cells 1000 (doneWith (pos 3))
+    -- plan A's table: flow 3 is the last of three counts, and with two its entries have none; they are not at position 0
+    ∷ slot 5 4 3 (1 ∷ 1 ∷ 1 ∷ 3 ∷ 3 ∷ otherRows) (0 ∷ 0 ∷ 0 ∷ []) (doneWith (pos 0))
+    ∷ slot 5 4 3 (1 ∷ 1 ∷ 1 ∷ 3 ∷ 3 ∷ otherRows) (0 ∷ 0 ∷ []) (answer ENTRY-ABOVE-COUNTS (pos 3))
+    ∷ slot 5 4 0 (1 ∷ 1 ∷ 1 ∷ 3 ∷ 3 ∷ otherRows) (0 ∷ 0 ∷ []) (doneWith (pos 0))
+    -- two outputs with an entry above the number of counts: the lower one's place; then the other's alone
+    ∷ slot 2 3 0 strangeTable (replicate 2 0) (answer ENTRY-ABOVE-COUNTS (pos 2))
+    ∷ slot 2 3 0 strangeTable (replicate 9 0) (answer ENTRY-ABOVE-COUNTS (pos 4))
+    -- an entry that is equal to the number of counts has one
+    ∷ slot 2 3 1 strangeTable (replicate 2 0) (answer ENTRY-ABOVE-COUNTS (pos 3))
+    ∷ slot 2 3 1 strangeTable (replicate 3 0) (doneWith (pos 0))
+    -- 28 comes after 11
+    ∷ slot 2 3 2 strangeTable [] (refusal POSITION-PAST-FRAME)
     ∷ []
 
 -- "one proof over that table shows them of the definitions"

@@ -1,7 +1,8 @@
 -- What a call that is done tells of its arguments, and the state after a call that is done or refused.
-use Prim.Native.Nat.{ℕ, _+_, _*_, _≤_, _<_}
+use Prim.Native.Nat.{ℕ, _+_, _*_, _≤_}
 use mathlib.Core.Path.{_≡_, refl, sym, _∙_, ap}
 use mathlib.Core.List.{List}
+use native.Mathlib.Omega.{arith}
 use native.Mathlib.Decide.{ℕ-discrete}
 use borrow.Author.Tests.{eq-eqb, ne-eqb, ltb-true, ltb-false, not-false}
 use lib.ListN.{length}
@@ -11,11 +12,13 @@ use Rattle.answers.specs.Limits.{maxFrame, maxPorts, maxFlows, maxWaiting, With
 use Rattle.answers.specs.declared.Answer.{Answer}
 use Rattle.answers.specs.Numbers.{DONE}
 use Rattle.answers.specs.Answers.{doneWith}
-use Rattle.answers.proofs.First.{done-exactly}
+use Rattle.answers.proofs.First.{NoneHolds, done-exactly, none-first}
+use Rattle.answers.proofs.Lowest.{somewhere-false}
 use Rattle.answers.proofs.Ranges.{inside, either-false}
 use Rattle.forwarding.specs.declared.Running.{Running}
-use Rattle.forwarding.specs.Forwarding.{offerRules, slotRules, offerAnswer, slotAnswer, waitingOf}
+use Rattle.forwarding.specs.Forwarding.{offerRules, slotSizeRules, slotEntryRules, slotRules, offerAnswer, slotAnswer, waitingOf, entriesNow, aboveCounts}
 use Rattle.forwarding.specs.Histories.{State, Call, answerOf, carriedOut, step}
+use Rattle.forwarding.specs.AboveCounts.{SlotAsked, AllCounted}
 
 pub record OfferDone (W : List ℕ) (k n : ℕ) : Type 0 where
   pub few : length W ≤ maxFlows
@@ -32,26 +35,33 @@ offer-done W k n e z =
       room = ltb-false maxWaiting (waitingOf W k + n) (none .1 .1 .0);
     }
 
+pub slot-asked : (r : Running) (T W : List ℕ) (sentLength : ℕ) → NoneHolds (slotSizeRules r T W sentLength) → SlotAsked r T W sentLength
+slot-asked r T W sentLength none =
+    let sizes = either-false (ltb maxFlows (length W)) (ltb sentLength (r .ports)) (none .1 .1 .1 .0) in
+    record {
+      whole =
+          record {
+            frame-in-range = inside {low = 1} {high = maxFrame} {x = r .frame} (none .0);
+            ports-in-range = inside {low = 1} {high = maxPorts} {x = r .ports} (none .1 .0);
+            long-enough = ltb-false (length T) (r .ports * r .frame) (none .1 .1 .0);
+          };
+      few = ltb-false maxFlows (length W) (sizes .0);
+      sent-room = ltb-false sentLength (r .ports) (sizes .1);
+      placed = ltb-true (r .position) (r .frame) (not-false (ltb (r .position) (r .frame)) (none .1 .1 .1 .1 .0));
+    }
+
 pub record SlotDone (r : Running) (T W : List ℕ) (sentLength : ℕ) : Type 0 where
-  pub frame-good : Within 1 maxFrame (r .frame)
-  pub ports-good : Within 1 maxPorts (r .ports)
-  pub table-whole : r .ports * r .frame ≤ length T
-  pub few : length W ≤ maxFlows
-  pub sent-room : r .ports ≤ sentLength
-  pub placed : r .position < r .frame
+  pub asked : SlotAsked r T W sentLength
+  pub counted : AllCounted r T W
 
 pub slot-done : (r : Running) (T W : List ℕ) (sentLength : ℕ) {a : Answer} → a ≡ slotAnswer r T W sentLength → a .number ≡ DONE → SlotDone r T W sentLength
 unfolding slotAnswer
 slot-done r T W sentLength e z =
     let none = done-exactly DONE (slotRules r T W sentLength) (doneWith (pos 0)) refl tt .0 (sym (ap (λ (x : Answer). x .number) e) ∙ z) in
-    let sizes = either-false (ltb maxFlows (length W)) (ltb sentLength (r .ports)) (none .1 .1 .1 .0) in
+    let nowhere = somewhere-false 0 (r .ports) (aboveCounts r T (length W)) (none .1 .1 .1 .1 .1 .0) in
     record {
-      frame-good = inside {low = 1} {high = maxFrame} {x = r .frame} (none .0);
-      ports-good = inside {low = 1} {high = maxPorts} {x = r .ports} (none .1 .0);
-      table-whole = ltb-false (length T) (r .ports * r .frame) (none .1 .1 .0);
-      few = ltb-false maxFlows (length W) (sizes .0);
-      sent-room = ltb-false sentLength (r .ports) (sizes .1);
-      placed = ltb-true (r .position) (r .frame) (not-false (ltb (r .position) (r .frame)) (none .1 .1 .1 .1 .0));
+      asked = slot-asked r T W sentLength (none-first (slotSizeRules r T W sentLength) (slotEntryRules r T W) none);
+      counted = λ j l. ltb-false (length W) (entriesNow r T j) (nowhere j (omega arith) (omega arith));
     }
 
 abbrev pub Done : State → Call → Type 0

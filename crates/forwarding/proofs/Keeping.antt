@@ -10,8 +10,8 @@ use Rattle.answers.specs.Numbers.{DONE}
 use Rattle.answers.specs.Limits.{Within}
 use Rattle.answers.specs.Sums.{sum, one}
 use Rattle.forwarding.specs.declared.Running.{Running}
-use Rattle.forwarding.specs.Forwarding.{waitingOf}
-use Rattle.forwarding.specs.Histories.{State, Call, aFreshStart, anOffer, aSlot, answerOf, entriesNow, carriedOut, step, sentBy, acceptedBy, slotBy, freshStartBy}
+use Rattle.forwarding.specs.Forwarding.{entriesNow, waitingOf}
+use Rattle.forwarding.specs.Histories.{State, Call, aFreshStart, anOffer, aSlot, answerOf, carriedOut, step, sentBy, acceptedBy, slotBy, freshStartBy}
 use Rattle.forwarding.proofs.Done.{Done, Refused, done-or, offer-done, step-done, step-refused}
 use Rattle.forwarding.proofs.Cells.{served-length, served-is, sent-is, added-is}
 

@@ -1,4 +1,5 @@
 pub mod Done
+pub mod AboveCounts
 pub mod Outcomes
 pub mod Serving
 pub mod SentBuffer
@@ -8,5 +9,6 @@ pub mod Keeping
 pub mod Count
 pub mod Shares
 pub mod Isolation
+pub mod NeverAbove
 pub mod OneOutcome
 pub mod WorkedRun

@@ -7,8 +7,8 @@ use lib.ListN.{length, replicate}
 use Rattle.answers.specs.Numbers.{DONE}
 use Rattle.answers.specs.declared.Answer.{Answer}
 use Rattle.forwarding.specs.declared.Running.{Running}
-use Rattle.forwarding.specs.Forwarding.{freshStartAnswer, offerAnswer, slotAnswer, added, served, written}
-use Rattle.forwarding.specs.Histories.{State, Call, stateOf, runningAt, aFreshStart, anOffer, aSlot, answerOf, entriesNow, advanced, step, outcomeOf, sentAfter}
+use Rattle.forwarding.specs.Forwarding.{entriesNow, freshStartAnswer, offerAnswer, slotAnswer, added, served, written}
+use Rattle.forwarding.specs.Histories.{State, Call, stateOf, runningAt, aFreshStart, anOffer, aSlot, answerOf, advanced, step, outcomeOf, sentAfter}
 use Rattle.forwarding.specs.Promises.{outcome, FreshStarted, Offered, SlotServed}
 use Rattle.forwarding.proofs.Done.{step-done, step-refused}
 

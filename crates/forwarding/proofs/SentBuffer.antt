@@ -12,8 +12,8 @@ use lib.Dec.{eqb}
 use Rattle.answers.specs.Numbers.{DONE}
 use Rattle.answers.specs.Sums.{one}
 use Rattle.answers.proofs.Sums.{sum-agree}
-use Rattle.forwarding.specs.Forwarding.{outputByte, written}
-use Rattle.forwarding.specs.Histories.{aSlot, answerOf, done, entriesNow, sentAfter}
+use Rattle.forwarding.specs.Forwarding.{entriesNow, outputByte, written}
+use Rattle.forwarding.specs.Histories.{aSlot, answerOf, done, sentAfter}
 use Rattle.forwarding.specs.SentBuffer.{CellsShown, BytesPastStay}
 use Rattle.forwarding.proofs.Done.{slot-done}
 
@@ -46,7 +46,7 @@ pub cells-shown : CellsShown
 unfolding sentAfter
 cells-shown k st T S e =
     let f : ℕ → ℕ = entriesNow (st .running) T in
-    let room = slot-done (st .running) T (st .waiting) (length S) refl (eqb-true (answerOf st (aSlot T (length S)) .number) DONE e) .sent-room in
+    let room = slot-done (st .running) T (st .waiting) (length S) refl (eqb-true (answerOf st (aSlot T (length S)) .number) DONE e) .asked .sent-room in
     simp e
     (sum-agree (st .running .ports) (λ r. one (eqb (getD (written (st .running .ports) f (st .waiting) S) r 0) k)) (λ r. one (eqb (outputByte f (st .waiting) r) k))
     (λ r l. ap (λ (b : ℕ). one (eqb b k)) (written-at f (st .waiting) S (st .running .ports) r l room)))

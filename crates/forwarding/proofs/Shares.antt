@@ -85,7 +85,7 @@ module _ (k : ℕ) (T : List ℕ) where
       record {
         at-most = omega (arith, rest .at-most, slot-sends k st T n known e);
         at-least = omega (arith, rest .at-least, slot-sends k st T n known e, kept k st known c refl);
-        placed = λ l. slot-done (st .running) T (st .waiting) n refl e .placed;
+        placed = λ l. slot-done (st .running) T (st .waiting) n refl e .asked .placed;
       }
 
   share : (st : State) (h : List Call) → Within 1 (length (st .waiting)) k → LentOnly T h → total freshStartBy st h ≡ 0 → Share st h

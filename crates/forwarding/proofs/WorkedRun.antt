@@ -29,22 +29,22 @@ calls = aSlot T 4 ∷ anOffer 3 1 ∷ aSlot T 4 ∷ aSlot T 3 ∷ aSlot T 9 ∷ 
 
 -- flow 1 sends the cell that waited and two that were offered meanwhile, its whole reservation
 flow-1 : total (sentBy 1) opened calls ≡ 3
-unfolding total step sum served offerAnswer slotAnswer
+unfolding total step sum served offerAnswer slotAnswer lowest
 flow-1 = refl
 
 -- flow 2 sends its reservation, which waited
 flow-2 : total (sentBy 2) opened calls ≡ 2
-unfolding total step sum served offerAnswer slotAnswer
+unfolding total step sum served offerAnswer slotAnswer lowest
 flow-2 = refl
 
 -- flow 3's entry comes up once before a cell is offered and once after
 flow-3 : total (sentBy 3) opened calls ≡ 1
-unfolding total step sum served offerAnswer slotAnswer
+unfolding total step sum served offerAnswer slotAnswer lowest
 flow-3 = refl
 
 -- the window ends at the position at which it opened
 closed : run opened calls ≡ stateOf (runningAt 5 4 3) (3998 ∷ 3 ∷ 0 ∷ [])
-unfolding run step served offerAnswer slotAnswer
+unfolding run step served offerAnswer slotAnswer lowest
 closed = refl
 
 accepted : Accepted 5 4 L T
@@ -52,7 +52,7 @@ unfolding lowest times sum
 accepted = accepted-then 5 4 L T (refl, (refl, (refl, tt)))
 
 window : Window L T opened calls 5
-unfolding total step served offerAnswer slotAnswer
+unfolding total step served offerAnswer slotAnswer lowest
 window = record { accepted = accepted; counts = refl; one-table = (refl, (refl, (refl, (refl, (refl, (refl, tt)))))); no-fresh-start = refl; slots-done = refl }
 
 -- so the theorems speak of this run: of flow 1 they say 1 to 3 cells, of flow 2 exactly 2

@@ -1,14 +1,15 @@
 -- What one call answers, and how a slot serves its outputs. W is the waiting counts, flow 1's first.
 use Prim.Native.Nat.{ℕ, zero, suc, _+_, _-_, _*_}
 use mathlib.Core.Bool.{Bool, not, cond, _&&_, _||_}
-use mathlib.Core.List.{List, [], _∷_}
+use mathlib.Core.List.{List, [], _∷_, _++_}
 use lib.ListN.{length, getD, set}
 use lib.IntN.{pos}
 use lib.Dec.{eqb, ltb}
 use Rattle.answers.specs.declared.Answer.{Answer}
-use Rattle.answers.specs.Numbers.{FRAME-OUT-OF-RANGE, PORTS-OUT-OF-RANGE, TABLE-TOO-SHORT, POSITION-PAST-FRAME, COUNTS-OR-SENT-MISSIZED, FLOW-UNKNOWN, WAITING-FULL}
+use Rattle.answers.specs.Numbers.{FRAME-OUT-OF-RANGE, PORTS-OUT-OF-RANGE, TABLE-TOO-SHORT, POSITION-PAST-FRAME, COUNTS-OR-SENT-MISSIZED, FLOW-UNKNOWN, WAITING-FULL, ENTRY-ABOVE-COUNTS}
 use Rattle.answers.specs.Limits.{maxFrame, maxPorts, maxFlows, maxWaiting, outside}
-use Rattle.answers.specs.Answers.{Rule, refusal, doneWith, _when_, first}
+use Rattle.answers.specs.Answers.{Rule, refusal, doneWith, _when_, tellingOfLowest, first}
+use Rattle.tables.specs.Accepted.{entry}
 use Rattle.forwarding.specs.declared.Running.{Running}
 
 -- flow k's cells waiting; flows count from 1
@@ -43,15 +44,39 @@ offerRules W k n =
 unfoldable pub offerAnswer : List ℕ → ℕ → ℕ → Answer
 offerAnswer W k n = first (offerRules W k n) (doneWith (pos 0))
 
--- the refusals of a slot, in their order: 1, 2, 7, 12, 11; a table and a sent buffer are judged by their lengths
-abbrev pub slotRules : Running → List ℕ → List ℕ → ℕ → List Rule
-slotRules r T W sentLength =
+-- the entries at the record's position, output 1's first
+abbrev pub entriesNow : Running → List ℕ → ℕ → ℕ
+entriesNow r T j = entry (r .frame) T j (r .position)
+
+-- where they stand in the table
+abbrev pub placeNow : Running → ℕ → ℕ
+placeNow r j = j * r .frame + r .position
+
+-- refusal 28 of output j + 1: its entry at the record's position is above the number of waiting counts
+abbrev pub aboveCounts : Running → List ℕ → ℕ → ℕ → Bool
+aboveCounts r T counts j = ltb counts (entriesNow r T j)
+
+-- the refusals of a slot before it looks at an entry, in their order: 1, 2, 7, 12, 11; a table, counts and a sent buffer are judged by their lengths
+abbrev pub slotSizeRules : Running → List ℕ → List ℕ → ℕ → List Rule
+slotSizeRules r T W sentLength =
     (refusal FRAME-OUT-OF-RANGE when outside 1 maxFrame (r .frame))
     ∷ (refusal PORTS-OUT-OF-RANGE when outside 1 maxPorts (r .ports))
     ∷ (refusal TABLE-TOO-SHORT when ltb (length T) (r .ports * r .frame))
     ∷ (refusal COUNTS-OR-SENT-MISSIZED when (ltb maxFlows (length W) || ltb sentLength (r .ports)))
     ∷ (refusal POSITION-PAST-FRAME when not (ltb (r .position) (r .frame)))
     ∷ []
+
+-- the first of them, or done
+unfoldable pub slotSizeAnswer : Running → List ℕ → List ℕ → ℕ → Answer
+slotSizeAnswer r T W sentLength = first (slotSizeRules r T W sentLength) (doneWith (pos 0))
+
+-- then 28 with the place in the table, looking only at the record's position, lowest output first
+abbrev pub slotEntryRules : Running → List ℕ → List ℕ → List Rule
+slotEntryRules r T W = tellingOfLowest ENTRY-ABOVE-COUNTS (placeNow r) 0 (r .ports) (aboveCounts r T (length W)) ∷ []
+
+-- the refusals of a slot, in their order: 1, 2, 7, 12, 11, 28
+abbrev pub slotRules : Running → List ℕ → List ℕ → ℕ → List Rule
+slotRules r T W sentLength = slotSizeRules r T W sentLength ++ slotEntryRules r T W
 
 -- what a slot answers, lent the table T and a sent buffer of that length
 unfoldable pub slotAnswer : Running → List ℕ → List ℕ → ℕ → Answer

@@ -7,10 +7,9 @@ use lib.Dec.{eqb}
 use Rattle.answers.specs.declared.Answer.{Answer}
 use Rattle.answers.specs.Numbers.{DONE}
 use Rattle.answers.specs.Sums.{sum, one}
-use Rattle.tables.specs.Accepted.{entry}
 use Rattle.forwarding.specs.declared.Running.{Running}
 use Rattle.forwarding.specs.declared.Outcome.{Outcome}
-use Rattle.forwarding.specs.Forwarding.{freshStartAnswer, offerAnswer, slotAnswer, added, served, outputByte, written, nextPosition}
+use Rattle.forwarding.specs.Forwarding.{freshStartAnswer, offerAnswer, slotAnswer, entriesNow, added, served, outputByte, written, nextPosition}
 
 -- what the calls are about: the running record and the waiting counts
 pub record State : Type 0 where
@@ -39,10 +38,6 @@ answerOf st (aSlot T sentLength) = slotAnswer (st .running) T (st .waiting) sent
 -- the call is done
 abbrev pub done : State → Call → Bool
 done st c = eqb (answerOf st c .number) DONE
-
--- the entries at the record's position, output 1's first
-abbrev pub entriesNow : Running → List ℕ → ℕ → ℕ
-entriesNow r T j = entry (r .frame) T j (r .position)
 
 -- the record after a slot
 abbrev pub advanced : Running → Running

@@ -5,3 +5,4 @@ pub mod Promises
 pub mod Shares
 pub mod Isolation
 pub mod Count
+pub mod AboveCounts

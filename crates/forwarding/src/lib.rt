@@ -1,14 +1,20 @@
 // The forwarding core: a fresh start, offers and slots. The record goes in and comes back by value; the waiting counts and
 // the sent buffer are lent. A refusal changes nothing.
-ghost use Prim.Native.Nat.{_+_, _*_, _≤_, _<_};
+ghost use Prim.Native.Nat.{_+_, _≤_, _<_};
 ghost use mathlib.Core.Path.{_≡_};
 ghost use lib.ListN.{length, replicate};
-ghost use Rattle.forwarding.specs.Forwarding.{freshStartAnswer, offerAnswer, slotAnswer, sentByte, taken, served, written};
-ghost use Rattle.forwarding.specs.Histories.{entriesNow, advanced};
+ghost use Rattle.answers.specs.Limits.{maxDetail};
+ghost use Rattle.answers.specs.Lowest.{lowest};
+ghost use Rattle.tables.specs.Check.{Holds};
+ghost use Rattle.forwarding.specs.Forwarding.{freshStartAnswer, offerAnswer, entriesNow, placeNow, aboveCounts, slotSizeAnswer, slotAnswer, sentByte, taken, served, written};
+ghost use Rattle.forwarding.specs.Histories.{advanced};
+ghost use Rattle.forwarding.specs.AboveCounts.{AllCounted};
 ghost use Rattle.forwarding.specs.Promises.{FreshStarted, Offered, SlotServed};
 use answers::Answer;
+use answers::naming;
 use answers::outside;
 use answers::refusal;
+use tables::check::entry_at;
 
 pub mod record;
 
@@ -66,9 +72,33 @@ fn offer_answer(waiting: &[u16], flow: usize, n: u16) -> Answer
     refusal(answers::DONE)
 }
 
-// What a slot answers.
-fn slot_answer(running: Running, table: &[u8], waiting: &[u16], sent_length: usize) -> Answer
-    ensures { λ r. ⌜ r ≡ slotAnswer running (now (table .entry)) (now (waiting .entry)) «sent_length» ⌝ }
+// Where the entry of output j + 1 at the record's position stands in the table.
+fn place_now(running: Running, j: usize) -> usize
+    requires { ⌜ placeNow running j < maxDetail ⌝ }
+    ensures { λ r. ⌜ r ≡ placeNow running j ⌝ }
+{
+    j * running.frame + running.position
+}
+
+// The lowest output, from 0, of which refusal 28 tells, or the number of ports. Only entries at the record's position are looked at.
+fn first_above_counts(running: Running, table: &[u8], counts: usize) -> usize
+    requires whole { ⌜ Holds (running .frame) (running .ports) (now table) ⌝ }
+    requires placed { ⌜ running .position < running .frame ⌝ }
+    ensures { λ r. ⌜ r ≡ lowest 0 (running .ports) (aboveCounts running (now (table .entry)) counts) ⌝ }
+{
+    let mut j = 0;
+    while j < running.ports {
+        if counts < entry_at(running.frame, table, j, running.position) {
+            return j;
+        }
+        j += 1;
+    }
+    j
+}
+
+// What a slot answers before it looks at an entry.
+fn slot_size_answer(running: Running, table: &[u8], waiting: &[u16], sent_length: usize) -> Answer
+    ensures { λ r. ⌜ r ≡ slotSizeAnswer running (now (table .entry)) (now (waiting .entry)) «sent_length» ⌝ }
 {
     if outside(1, answers::MAX_FRAME, running.frame) {
         return refusal(answers::FRAME_OUT_OF_RANGE);
@@ -91,6 +121,21 @@ fn slot_answer(running: Running, table: &[u8], waiting: &[u16], sent_length: usi
     refusal(answers::DONE)
 }
 
+// What a slot answers.
+fn slot_answer(running: Running, table: &[u8], waiting: &[u16], sent_length: usize) -> Answer
+    ensures { λ r. ⌜ r ≡ slotAnswer running (now (table .entry)) (now (waiting .entry)) «sent_length» ⌝ }
+{
+    let sized = slot_size_answer(running, table, waiting, sent_length);
+    if sized.number != answers::DONE {
+        return sized;
+    }
+    let j = first_above_counts(running, table, waiting.len());
+    if j < running.ports {
+        return naming(answers::ENTRY_ABOVE_COUNTS, place_now(running, j));
+    }
+    sized
+}
+
 // Sets every waiting count to 0.
 fn clear(waiting: &mut [u16])
     ensures { λ _. ⌜ now (waiting .exit) ≡ replicate (length (now (waiting .entry))) 0 ⌝ }
@@ -102,16 +147,17 @@ fn clear(waiting: &mut [u16])
     }
 }
 
-// Takes one waiting cell of the entry's flow, if the entry is a flow with a count and a cell waits; the output's byte comes back.
+// Takes one waiting cell of the entry's flow, if the entry is a flow and a cell waits; the output's byte comes back.
+// An entry without a count does not come here: the slot was refused.
 fn send_cell(waiting: &mut [u16], entry: u8) -> u8
+    requires { ⌜ entry ≤ length (now waiting) ⌝ }
     ensures byte { λ r. ⌜ r ≡ sentByte (now (waiting .entry)) entry ⌝ }
     ensures left { λ _. ⌜ now (waiting .exit) ≡ taken (now (waiting .entry)) entry ⌝ }
 {
-    let flow = entry as usize;
-    if outside(1, waiting.len(), flow) {
+    if entry == 0 {
         return 0;
     }
-    let at = flow - 1;
+    let at = entry as usize - 1;
     let cells = waiting[at];
     if cells == 0 {
         return 0;
@@ -122,16 +168,16 @@ fn send_cell(waiting: &mut [u16], entry: u8) -> u8
 
 // Serves the outputs in order, each by its entry at the record's position.
 fn serve(running: Running, table: &[u8], waiting: &mut [u16], sent: &mut [u8])
-    requires whole { ⌜ running .ports * running .frame ≤ length (now table) ⌝ }
-    requires room { ⌜ running .ports ≤ length (now sent) ⌝ }
+    requires whole { ⌜ Holds (running .frame) (running .ports) (now table) ⌝ }
     requires placed { ⌜ running .position < running .frame ⌝ }
+    requires counted { ⌜ AllCounted running (now table) (now waiting) ⌝ }
+    requires room { ⌜ running .ports ≤ length (now sent) ⌝ }
     ensures counts { λ _. ⌜ now (waiting .exit) ≡ served (running .ports) (entriesNow running (now (table .entry))) (now (waiting .entry)) ⌝ }
     ensures bytes { λ _. ⌜ now (sent .exit) ≡ written (running .ports) (entriesNow running (now (table .entry))) (now (waiting .entry)) (now (sent .entry)) ⌝ }
 {
     let mut j = 0;
     while j < running.ports {
-        let place = j * running.frame + running.position;
-        sent[j] = send_cell(waiting, table[place]);
+        sent[j] = send_cell(waiting, table[place_now(running, j)]);
         j += 1;
     }
 }

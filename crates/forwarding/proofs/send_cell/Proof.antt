@@ -1,39 +1,36 @@
 -- `forwarding::send_cell` meets its contract: each way out rewrites by the tests that led there.
-use Prim.Native.Nat.{_<_}
-use Rattle.forwarding.specs.Forwarding.{waitingOf}
-use mathlib.Core.Path.{sym, _∙_}
+use Prim.Native.Nat.{ℕ, _≤_, _<_}
+use mathlib.Core.Path.{_≡_}
+use mathlib.Core.Bool.{false}
+use mathlib.Core.List.{List}
 use native.Mathlib.Omega.{arith}
 use borrow.Author.Tests.{lt-ltb}
 use lib.ListN.{length}
-use Rattle.answers.proofs.Ranges.{inside}
+use Rattle.answers.proofs.Ranges.{within-test}
+use Rattle.forwarding.specs.Forwarding.{waitingOf, unknown}
 use borrow.Author.Needs.{needs}
 use Rattle.forwarding.proofs.send_cell.Statement.{statement}
 use Rattle.forwarding.proofs.send_cell.Tie as tie
 
-outside-requires : tie.Need-outside-requires
-outside-requires c κs = search needs
+-- an entry that is not 0 and not above the number of counts has one
+counted : (e : ℕ) (W : List ℕ) → 0 < e → e ≤ length W → unknown W e ≡ false
+counted e W some l = within-test (record { at-least = some; at-most = l })
 
 returns : tie.Need-returns
-returns c =
-    let not-there = sym (c .before .outside .ensures) ∙ c .if1 .taken in
-    (simp not-there, simp not-there)
+returns c = (simp (c .if1 .taken), simp (c .if1 .taken))
 
 sub-at : tie.Need-sub-at
-sub-at c =
-    let a = c .before .before .before .args in
-    omega (arith, inside {low = 1} {high = length (a .waiting .now)} {x = a .entry} (sym (c .before .outside .ensures) ∙ c .if1 .left))
+sub-at c = search needs
 
 mul-cells : tie.Need-mul-cells
 mul-cells c = search needs
 
 slice-read-cells : tie.Need-slice-read-cells
-slice-read-cells c =
-    let a = c .before .before .before .before .args in
-    omega (arith, inside {low = 1} {high = length (a .waiting .now)} {x = a .entry} (sym (c .before .before .outside .ensures) ∙ c .before .if1 .left))
+slice-read-cells c = search needs
 
 returns-2 : tie.Need-returns-2
 returns-2 c =
-    let there = sym (c .before .before .before .outside .ensures) ∙ c .before .before .if1 .left in
+    let there = counted (c .before .before .before .args .entry) (c .before .before .before .args .waiting .now) (omega arith) (c .before .before .before .pre) in
     (simp (there, c .if2 .taken), simp (there, c .if2 .taken))
 
 sub-waiting : tie.Need-sub-waiting
@@ -43,17 +40,15 @@ mul-waiting : tie.Need-mul-waiting
 mul-waiting c = search needs
 
 slice-write-waiting : tie.Need-slice-write-waiting
-slice-write-waiting c =
-    let a = c .before .before .before .before .before .args in
-    omega (arith, inside {low = 1} {high = length (a .waiting .now)} {x = a .entry} (sym (c .before .before .before .outside .ensures) ∙ c .before .before .if1 .left))
+slice-write-waiting c = search needs
 
 same-length : tie.Need-same-length
 same-length c = search needs
 
 returns-3 : tie.Need-returns-3
 returns-3 c =
-    let a = c .before .before .before .before .before .args in
-    let there = sym (c .before .before .before .outside .ensures) ∙ c .before .before .if1 .left in
+    let a = c .before .before .before .args in
+    let there = counted (a .entry) (a .waiting .now) (omega arith) (c .before .before .before .pre) in
     let waits : 0 < waitingOf (a .waiting .now) (a .entry) = omega arith in
     (simp (there, lt-ltb 0 _ waits), simp (there, lt-ltb 0 _ waits))
 
@@ -61,7 +56,6 @@ pub send-cell-spec : {M : Type 1} → statement M
 send-cell-spec =
     tie.close
     (tie.spec
-    outside-requires
     returns
     sub-at
     mul-cells

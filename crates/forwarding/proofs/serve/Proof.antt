@@ -1,14 +1,12 @@
 -- `forwarding::serve` meets its contract. The loop's invariant: counts and sent buffer are those after the outputs passed.
 use Prim.Native.Nat.{ℕ, _-_, _≤_}
-use mathlib.Core.Path.{_≡_, refl, _∙_, ap}
+use mathlib.Core.Path.{_≡_, refl, sym, _∙_, ap, subst}
 use mathlib.Core.List.{List}
 use native.Mathlib.Omega.{arith}
-use native.Mathlib.Nat.{mul-le-mul-right}
-use lib.ListN.{length, length-set}
-use lib.Arith.{digits-lt}
+use lib.ListN.{length, getD, length-set}
+use Rattle.tables.proofs.Places.{place-within, place-bound}
 use Rattle.forwarding.specs.declared.Running.{Running}
-use Rattle.forwarding.specs.Forwarding.{served, written}
-use Rattle.forwarding.specs.Histories.{entriesNow}
+use Rattle.forwarding.specs.Forwarding.{entriesNow, sentByte, taken, served, written}
 use Rattle.forwarding.proofs.Serving.{served-more, written-more}
 use Rattle.forwarding.proofs.serve.Statement.{statement}
 use Rattle.forwarding.proofs.serve.Tie as tie
@@ -31,23 +29,26 @@ loop-holds : tie.Need-loop-holds Inv-loop μ-loop
 unfolding served written
 loop-holds c = record { below = omega arith; same-counts = refl; same-room = refl; counts = refl; bytes = refl }
 
-mul-place : tie.Need-mul-place Inv-loop μ-loop
-mul-place c =
-    let a = c .before .before .before .before .before .before .before .args in
-    omega (arith, mul-le-mul-right (a .running .frame) (c .before .before .before .loop .inv .below))
-
-add-place : tie.Need-add-place Inv-loop μ-loop
-add-place c =
-    let r = c .before .before .before .before .before .before .before .before .args .running in
-    omega (arith, digits-lt {q = c .before .before .before .before .loop .j} {m = r .ports} {r = r .position} {c = r .frame} (omega arith) (omega arith))
+place-now-requires : tie.Need-place-now-requires Inv-loop μ-loop
+place-now-requires c κs =
+    let s = c .before .before .before .before .before .before .before in
+    omega (arith, place-bound (s .pre .0) (c .before .before .before .loop .j) (s .args .running .position) (omega arith) (s .pre .1 .0))
 
 shared-slice-read-send-cell : tie.Need-shared-slice-read-send-cell Inv-loop μ-loop
 shared-slice-read-send-cell c =
-    let r = c .before .before .before .before .before .before .before .before .before .before .args .running in
-    omega (arith, digits-lt {q = c .before .before .before .before .before .before .loop .j} {m = r .ports} {r = r .position} {c = r .frame} (omega arith) (omega arith))
+    let s = c .before .before .before .before .before .before .before .before .before in
+    omega (
+      arith,
+      c .before .place-now .ensures,
+      place-within (s .pre .0) (c .before .before .before .before .before .loop .j) (s .args .running .position) (omega arith) (s .pre .1 .0),
+    )
 
 send-cell-requires : tie.Need-send-cell-requires Inv-loop μ-loop
-send-cell-requires c κs = tt
+send-cell-requires c κs =
+    let s = c .before .before .before .before .before .before .before .before .before in
+    let l = c .before .before .before .before .before .loop in
+    let has : entriesNow (s .args .running) (s .args .table .now) (l .j) ≤ length (l .waiting) = omega (arith, s .pre .1 .1 .0 (l .j) (omega arith), l .inv .same-counts) in
+    subst (λ (p : ℕ). getD (s .args .table .now) p 0 ≤ length (l .waiting)) (sym (c .before .place-now .ensures)) has
 
 slice-write-sent : tie.Need-slice-write-sent Inv-loop μ-loop
 slice-write-sent c = omega arith
@@ -60,16 +61,18 @@ loop-less c = omega arith
 
 loop-again : tie.Need-loop-again Inv-loop μ-loop
 loop-again c =
-    let a = c .before .before .before .before .before .before .before .before .before .before .before .before .before .args in
-    let l = c .before .before .before .before .before .before .before .before .before .loop in
+    let a = c .before .before .before .before .before .before .before .before .before .before .before .before .args in
+    let l = c .before .before .before .before .before .before .before .before .loop in
     let call = c .before .before .send-cell in
     let f = entriesNow (a .running) (a .table .now) in
+    let its : getD (a .table .now) (c .before .before .before .before .place-now .result) 0 ≡ f (l .j) =
+    ap (λ (p : ℕ). getD (a .table .now) p 0) (c .before .before .before .before .place-now .ensures) in
     record {
       below = omega arith;
       same-counts = call .kept .0 ∙ l .inv .same-counts;
       same-room = simp length-set (l .inv .same-room);
-      counts = served-more (l .j) f (a .waiting .now) (l .waiting) (call .last .0) (l .inv .counts) (call .ensures .1);
-      bytes = written-more (l .j) f (a .waiting .now) (a .sent .now) (l .waiting) (l .sent) (call .result) (l .inv .counts) (l .inv .bytes) (call .ensures .0);
+      counts = served-more (l .j) f (a .waiting .now) (l .waiting) (call .last .0) (l .inv .counts) (call .ensures .1 ∙ ap (λ (e : ℕ). taken (l .waiting) e) its);
+      bytes = written-more (l .j) f (a .waiting .now) (a .sent .now) (l .waiting) (l .sent) (call .result) (l .inv .counts) (l .inv .bytes) (call .ensures .0 ∙ ap (λ (e : ℕ). sentByte (l .waiting) e) its);
     }
 
 same-length : tie.Need-same-length Inv-loop μ-loop
@@ -95,8 +98,7 @@ serve-spec =
     Inv-loop
     μ-loop
     loop-holds
-    mul-place
-    add-place
+    place-now-requires
     shared-slice-read-send-cell
     send-cell-requires
     slice-write-sent

@@ -22,13 +22,13 @@ serve-requires c κs =
     let b = c .before .before in
     let a = b .before .before .before .before .before .before .before .args in
     let facts = slot-done (a .running) (a .table .now) (a .waiting .now) (length (a .sent .now)) (b .before .before .slot-answer .ensures) (b .if1 .left) in
-    (facts .table-whole, (facts .sent-room, facts .placed))
+    (facts .asked .whole, (facts .asked .placed, (facts .counted, facts .asked .sent-room)))
 
 advance-requires : tie.Need-advance-requires
 advance-requires c κs =
     let b = c .before .before .before .before .before .before .before in
     let a = b .before .before .before .before .before .before .before .args in
-    slot-done (a .running) (a .table .now) (a .waiting .now) (length (a .sent .now)) (b .before .before .slot-answer .ensures) (b .if1 .left) .placed
+    slot-done (a .running) (a .table .now) (a .waiting .now) (length (a .sent .now)) (b .before .before .slot-answer .ensures) (b .if1 .left) .asked .placed
 
 same-length-2 : tie.Need-same-length-2
 same-length-2 c = search needs

@@ -1,14 +1,14 @@
--- `forwarding::slot_answer` meets its contract: each way out rewrites by the tests that led there.
+-- `forwarding::slot_size_answer` meets its contract: each way out rewrites by the tests that led there.
 use mathlib.Core.Path.{sym, _∙_}
 use native.Mathlib.Omega.{arith}
 use native.Mathlib.Nat.{mul-le-mul}
 use borrow.Author.Tests.{lt-ltb, le-ltb}
 use Rattle.answers.specs.Limits.{maxFrame, maxPorts}
 use Rattle.answers.proofs.Ranges.{inside}
-use Rattle.forwarding.specs.Forwarding.{slotAnswer}
+use Rattle.forwarding.specs.Forwarding.{slotSizeAnswer}
 use borrow.Author.Needs.{needs}
-use Rattle.forwarding.proofs.slot_answer.Statement.{statement}
-use Rattle.forwarding.proofs.slot_answer.Tie as tie
+use Rattle.forwarding.proofs.slot_size_answer.Statement.{statement}
+use Rattle.forwarding.proofs.slot_size_answer.Tie as tie
 
 outside-requires : tie.Need-outside-requires
 outside-requires c κs = search needs
@@ -17,7 +17,7 @@ refusal-requires : tie.Need-refusal-requires
 refusal-requires c κs = search needs
 
 returns : tie.Need-returns
-unfolding slotAnswer
+unfolding slotSizeAnswer
 returns c = c .refusal .ensures ∙ simp (sym (c .before .before .outside .ensures) ∙ c .before .if1 .taken)
 
 outside-requires-2 : tie.Need-outside-requires-2
@@ -27,7 +27,7 @@ refusal-requires-2 : tie.Need-refusal-requires-2
 refusal-requires-2 c κs = search needs
 
 returns-2 : tie.Need-returns-2
-unfolding slotAnswer
+unfolding slotSizeAnswer
 returns-2 c =
     c .refusal2 .ensures
     ∙ simp (sym (c .before .before .before .before .outside .ensures) ∙ c .before .before .before .if1 .left, sym (c .before .before .outside2 .ensures) ∙ c .before .if2 .taken)
@@ -43,7 +43,7 @@ refusal-requires-3 : tie.Need-refusal-requires-3
 refusal-requires-3 c κs = search needs
 
 returns-3 : tie.Need-returns-3
-unfolding slotAnswer
+unfolding slotSizeAnswer
 returns-3 c =
     c .refusal3 .ensures
     ∙ simp (
@@ -56,7 +56,7 @@ refusal-requires-4 : tie.Need-refusal-requires-4
 refusal-requires-4 c κs = search needs
 
 returns-4 : tie.Need-returns-4
-unfolding slotAnswer
+unfolding slotSizeAnswer
 returns-4 c =
     c .refusal4 .ensures
     ∙ simp (
@@ -70,7 +70,7 @@ refusal-requires-5 : tie.Need-refusal-requires-5
 refusal-requires-5 c κs = search needs
 
 returns-5 : tie.Need-returns-5
-unfolding slotAnswer
+unfolding slotSizeAnswer
 returns-5 c =
     c .refusal5 .ensures
     ∙ simp (
@@ -85,7 +85,7 @@ refusal-requires-6 : tie.Need-refusal-requires-6
 refusal-requires-6 c κs = search needs
 
 returns-6 : tie.Need-returns-6
-unfolding slotAnswer
+unfolding slotSizeAnswer
 returns-6 c =
     c .refusal6 .ensures
     ∙ simp (
@@ -101,7 +101,7 @@ refusal-requires-7 : tie.Need-refusal-requires-7
 refusal-requires-7 c κs = search needs
 
 returns-7 : tie.Need-returns-7
-unfolding slotAnswer
+unfolding slotSizeAnswer
 returns-7 c =
     c .refusal7 .ensures
     ∙ simp (
@@ -113,8 +113,8 @@ returns-7 c =
       lt-ltb _ _ (c .before .if6 .left),
     )
 
-pub slot-answer-spec : {M : Type 1} → statement M
-slot-answer-spec =
+pub slot-size-answer-spec : {M : Type 1} → statement M
+slot-size-answer-spec =
     tie.close
     (tie.spec
     outside-requires
