@@ -5,7 +5,7 @@ use Rattle.forwarding.proofs.Count as Count
 use Rattle.forwarding.proofs.SentBuffer as SentBuffer
 use Rattle.forwarding.proofs.NeverAbove as NeverAbove
 use Rattle.forwarding.proofs.OneOutcome as Once
-use Rattle.demands.specs.Switch.{UpperShare, LowerShare, Isolation as FlowsApart, CellsKept, CellsShown, BytesPastStay, NamesEntry, AcceptedAsBefore, NeverInWindow, OneFreshStart, OneOffer, OneSlot}
+use Rattle.demands.specs.Switch.{UpperShare, LowerShare, Isolation as FlowsApart, CellsKept, CellsShown, BytesPastStay, NamesEntry, SizesDecide, NeverInWindow, OneFreshStart, OneOffer, OneSlot}
 
 pub at-most-its-reservation : UpperShare
 at-most-its-reservation = Shares.upper-share
@@ -28,8 +28,8 @@ bytes-past-stay = SentBuffer.bytes-past-stay
 pub names-entry : NamesEntry
 names-entry = NeverAbove.names-entry
 
-pub accepted-as-before : AcceptedAsBefore
-accepted-as-before = NeverAbove.accepted-as-before
+pub sizes-decide : SizesDecide
+sizes-decide = NeverAbove.sizes-decide
 
 pub never-in-window : NeverInWindow
 never-in-window = NeverAbove.never-in-window

@@ -10,6 +10,6 @@ pub use Rattle.forwarding.specs.Count.{CellsKept}
 -- the cells that a history counts as sent are those that the sent buffer shows, and "bytes past N sent stay"
 pub use Rattle.forwarding.specs.SentBuffer.{CellsShown, BytesPastStay}
 -- refusal 28: "the place in the table, looking only at the current position, lowest output first, after 11"; "an accepted table with K counts never meets this"
-pub use Rattle.forwarding.specs.AboveCounts.{NamesEntry, AcceptedAsBefore, NeverInWindow}
+pub use Rattle.forwarding.specs.AboveCounts.{NamesEntry, SizesDecide, NeverInWindow}
 -- no call has two different outcomes under its promise: `FreshStarted`, `Offered` and `SlotServed` are the contracts of the functions, the thin ones too
 pub use Rattle.forwarding.specs.Promises.{FreshStarted, Offered, SlotServed, OneFreshStart, OneOffer, OneSlot}

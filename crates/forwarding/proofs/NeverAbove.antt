@@ -1,5 +1,5 @@
 -- Refusal 28 in its own words, and that an accepted table with K counts never meets it: each of its entries is 0 or a flow, and flows have counts.
-use Prim.Native.Nat.{ℕ, suc, _≤_, _<_}
+use Prim.Native.Nat.{ℕ, _≤_, _<_}
 use mathlib.Core.Path.{_≡_, refl, sym, _∙_, ap, subst}
 use mathlib.Core.Logic.{_↔_, _⊎_, inl, inr}
 use mathlib.Core.Bool.{not}
@@ -9,21 +9,23 @@ use native.Mathlib.Decide.{ℕ-discrete}
 use borrow.Author.Tests.{eq-eqb, ne-eqb, ltb-true, lt-ltb, le-ltb}
 use lib.ListN.{length}
 use lib.IntN.{pos}
+use lib.Dec.{T as Truth}
 use Rattle.answers.specs.declared.Answer.{Answer}
 use Rattle.answers.specs.Numbers.{DONE, ENTRY-ABOVE-COUNTS}
 use Rattle.answers.specs.Lowest.{lowest, IsLowest}
 use Rattle.answers.specs.Sums.{one}
-use Rattle.answers.specs.Answers.{answer, doneWith}
-use Rattle.answers.proofs.First.{NoneHolds, lacked, told-exactly}
+use Rattle.answers.specs.Answers.{Rule, answer, doneWith, first}
+use Rattle.answers.proofs.First.{NoneHolds, lacks, lacked, told-exactly}
 use Rattle.answers.proofs.Lowest.{lowest-none}
 use Rattle.answers.proofs.Ranges.{within-test}
 use Rattle.flows.specs.Flows.{flowCount}
-use Rattle.tables.specs.Accepted.{Accepted, FlowOf, entry}
+use Rattle.tables.specs.Accepted.{Accepted, entry}
+use Rattle.tables.proofs.Counting.{entry-range}
 use Rattle.forwarding.specs.declared.Running.{Running}
 use Rattle.forwarding.specs.Forwarding.{entriesNow, placeNow, aboveCounts, freshStartRules, offerRules, slotSizeRules, freshStartAnswer, offerAnswer, slotSizeAnswer, slotAnswer}
-use Rattle.forwarding.specs.Histories.{State, Call, aFreshStart, anOffer, aSlot, answerOf, step, total, freshStartBy}
+use Rattle.forwarding.specs.Histories.{State, Call, aFreshStart, anOffer, aSlot, answerOf, carriedOut, step, total, freshStartBy}
 use Rattle.forwarding.specs.Shares.{LentOnly}
-use Rattle.forwarding.specs.AboveCounts.{SlotAsked, WithoutCount, NamesEntry, AcceptedAsBefore, answeredWith, NeverInWindow}
+use Rattle.forwarding.specs.AboveCounts.{SlotAsked, WithoutCount, NamesEntry, SizesDecide, answeredWith, NeverInWindow}
 use Rattle.forwarding.proofs.Done.{Done, done-or, slot-asked, step-done, step-refused}
 use Rattle.forwarding.proofs.AboveCounts.{size-refused, sizes-asked, none-refused}
 use Rattle.forwarding.proofs.Keeping.{step-length}
@@ -52,14 +54,14 @@ names-entry r T W n p = (λ e. let h = law .0 e in (slot-asked r T W n (h .0), h
 
 -- an entry of an accepted table is at most the number of flows
 entry-counted : {M N : ℕ} {L T : List ℕ} → Accepted M N L T → (j s : ℕ) → j < N → s < M → entry M T j s ≤ flowCount L
-entry-counted {M} {N} {L} {T} acc j s l u = go (acc .of-its-row j s l u)
+entry-counted {M} {N} {L} {T} acc j s l u = go (entry-range M N L T acc j s l u)
   where
-    go : (entry M T j s ≡ 0) ⊎ FlowOf L (suc j) (entry M T j s) → entry M T j s ≤ flowCount L
+    go : (entry M T j s ≡ 0) ⊎ ((1 ≤ entry M T j s) × (entry M T j s ≤ flowCount L)) → entry M T j s ≤ flowCount L
     go (inl z) = omega arith
-    go (inr f) = f .is-flow .at-most
+    go (inr b) = b .1
 
-pub accepted-as-before : AcceptedAsBefore
-accepted-as-before L T W r n acc counts = go (ℕ-discrete (slotSizeAnswer r T W n .number) DONE)
+pub sizes-decide : SizesDecide
+sizes-decide L T W r n acc counts = go (ℕ-discrete (slotSizeAnswer r T W n .number) DONE)
   where
     go : Dec (slotSizeAnswer r T W n .number ≡ DONE) → slotAnswer r T W n ≡ slotSizeAnswer r T W n
     go (no d) = sym (size-refused r T W n refl d)
@@ -68,32 +70,27 @@ accepted-as-before L T W r n acc counts = go (ℕ-discrete (slotSizeAnswer r T W
         let nowhere = lowest-none 0 (r .ports) (aboveCounts r T (length W)) (λ j a u. le-ltb (length W) (entriesNow r T j) (omega (arith, entry-counted acc j (r .position) (omega arith) placed, counts))) in
         sym (none-refused r T W n refl z (lowest 0 (r .ports) (aboveCounts r T (length W))) refl (omega (arith, nowhere)))
 
--- no rule of the other calls, and none of a slot's sizes, has the number
-start-lacks : (M N : ℕ) (W : List ℕ) → freshStartAnswer M N W .number ≡ ENTRY-ABOVE-COUNTS → ⊥
-unfolding freshStartAnswer
-start-lacks M N W e = absurd (omega (arith, lacked ENTRY-ABOVE-COUNTS (freshStartRules M N W) (doneWith (pos 0)) tt e .1))
-
-offer-lacks : (W : List ℕ) (k n : ℕ) → offerAnswer W k n .number ≡ ENTRY-ABOVE-COUNTS → ⊥
-unfolding offerAnswer
-offer-lacks W k n e = absurd (omega (arith, lacked ENTRY-ABOVE-COUNTS (offerRules W k n) (doneWith (pos 0)) tt e .1))
-
-sizes-lack : (r : Running) (T W : List ℕ) (n : ℕ) → slotSizeAnswer r T W n .number ≡ ENTRY-ABOVE-COUNTS → ⊥
-unfolding slotSizeAnswer
-sizes-lack r T W n e = absurd (omega (arith, lacked ENTRY-ABOVE-COUNTS (slotSizeRules r T W n) (doneWith (pos 0)) tt e .1))
+-- a call none of whose refusals has the number does not answer with it
+lacks-28 : (rs : List Rule) → Truth (lacks ENTRY-ABOVE-COUNTS rs) → first rs (doneWith (pos 0)) .number ≡ ENTRY-ABOVE-COUNTS → ⊥
+lacks-28 rs t e = omega (arith, lacked ENTRY-ABOVE-COUNTS rs (doneWith (pos 0)) t e .1)
 
 module _ (L T : List ℕ) where
+  abbrev AcceptedAt : State → Type 0
+  AcceptedAt st = Accepted (st .running .frame) (st .running .ports) L T
+
   -- the table is accepted at the record's frame and ports, and there are K counts
   record InForce (st : State) : Type 0 where
-    accepted : Accepted (st .running .frame) (st .running .ports) L T
+    accepted : AcceptedAt st
     counts : length (st .waiting) ≡ flowCount L
 
   never : (st : State) (c : Call) (h : List Call) → InForce st → LentOnly T (c ∷ h) → answeredWith ENTRY-ABOVE-COUNTS st c ≡ 0
-  never st (aFreshStart M N) h f lent = simp (ne-eqb _ _ (start-lacks M N (st .waiting)))
-  never st (anOffer k n) h f lent = simp (ne-eqb _ _ (offer-lacks (st .waiting) k n))
+  unfolding freshStartAnswer offerAnswer slotSizeAnswer
+  never st (aFreshStart M N) h f lent = simp (ne-eqb _ _ (lacks-28 (freshStartRules M N (st .waiting)) tt))
+  never st (anOffer k n) h f lent = simp (ne-eqb _ _ (lacks-28 (offerRules (st .waiting) k n) tt))
   never st (aSlot U n) h f lent =
       let same : answerOf st (aSlot U n) ≡ slotSizeAnswer (st .running) T (st .waiting) n =
-      ap (λ (X : List ℕ). answerOf st (aSlot X n)) (lent .0) ∙ accepted-as-before L T (st .waiting) (st .running) n (f .accepted) (f .counts) in
-      simp (ne-eqb _ _ (λ e. sizes-lack (st .running) T (st .waiting) n (sym (ap (λ (x : Answer). x .number) same) ∙ e)))
+      ap (λ (X : List ℕ). answerOf st (aSlot X n)) (lent .0) ∙ sizes-decide L T (st .waiting) (st .running) n (f .accepted) (f .counts) in
+      simp (ne-eqb _ _ (λ e. lacks-28 (slotSizeRules (st .running) T (st .waiting) n) tt (sym (ap (λ (x : Answer). x .number) same) ∙ e)))
 
   rest : (c : Call) (h : List Call) → LentOnly T (c ∷ h) → LentOnly T h
   rest (aFreshStart M N) h lent = lent
@@ -105,11 +102,14 @@ module _ (L T : List ℕ) where
   stays st c f none =
       record { accepted = go c (done-or st c) none; counts = step-length st c ∙ f .counts }
     where
-      go : (c : Call) → Dec (Done st c) → freshStartBy st c ≡ 0 → Accepted (step st c .running .frame) (step st c .running .ports) L T
-      go c (no d) none = subst (λ (s : State). Accepted (s .running .frame) (s .running .ports) L T) (sym (step-refused st c refl d)) (f .accepted)
+      after : (c : Call) (s : State) → step st c ≡ s → AcceptedAt s → AcceptedAt (step st c)
+      after c s same acc = subst (λ (x : State). AcceptedAt x) (sym same) acc
+
+      go : (c : Call) → Dec (Done st c) → freshStartBy st c ≡ 0 → AcceptedAt (step st c)
+      go c (no d) none = after c st (step-refused st c refl d) (f .accepted)
       go (aFreshStart M N) (yes e) none = absurd (omega (arith, ap one (eq-eqb (answerOf st (aFreshStart M N) .number) DONE e)))
-      go (anOffer k n) (yes e) none = subst (λ (s : State). Accepted (s .running .frame) (s .running .ports) L T) (sym (step-done st (anOffer k n) refl e)) (f .accepted)
-      go (aSlot U n) (yes e) none = subst (λ (s : State). Accepted (s .running .frame) (s .running .ports) L T) (sym (step-done st (aSlot U n) refl e)) (f .accepted)
+      go (anOffer k n) (yes e) none = after (anOffer k n) (carriedOut st (anOffer k n)) (step-done st (anOffer k n) refl e) (f .accepted)
+      go (aSlot U n) (yes e) none = after (aSlot U n) (carriedOut st (aSlot U n)) (step-done st (aSlot U n) refl e) (f .accepted)
 
   none-of-all : (st : State) (h : List Call) → InForce st → LentOnly T h → total freshStartBy st h ≡ 0 → total (answeredWith ENTRY-ABOVE-COUNTS) st h ≡ 0
   unfolding total

@@ -41,9 +41,10 @@ NamesEntry =
     → (slotAnswer r T W sentLength ≡ answer ENTRY-ABOVE-COUNTS (pos p))
     ↔ (SlotAsked r T W sentLength × ((j : ℕ) × IsLowest 0 (r .ports) (WithoutCount r T W) j × (placeNow r j ≡ p)))
 
--- lent a table that is accepted for the list at the record's frame and ports, with K waiting counts, a slot answers as if there were no 28
-abbrev pub AcceptedAsBefore : Type 0
-AcceptedAsBefore =
+-- lent a table that is accepted for the list at the record's frame and ports, with K waiting counts, a slot answers as if there were no 28:
+-- the record and the sizes of what it is lent decide
+abbrev pub SizesDecide : Type 0
+SizesDecide =
     (L T W : List ℕ) (r : Running) (sentLength : ℕ)
     → Accepted (r .frame) (r .ports) L T → length W ≡ flowCount L
     → slotAnswer r T W sentLength ≡ slotSizeAnswer r T W sentLength

@@ -50,7 +50,7 @@ one-flow K g (suc j) (inr b) =
     )
 
 module _ (M N : ℕ) (L T : List ℕ) (acc : Accepted M N L T) where
-  entry-range : (r s : ℕ) → r < N → s < M → (entry M T r s ≡ 0) ⊎ ((1 ≤ entry M T r s) × (entry M T r s ≤ flowCount L))
+  pub entry-range : (r s : ℕ) → r < N → s < M → (entry M T r s ≡ 0) ⊎ ((1 ≤ entry M T r s) × (entry M T r s ≤ flowCount L))
   entry-range r s lr ls = go (acc .of-its-row r s lr ls)
     where
       go : (entry M T r s ≡ 0) ⊎ FlowOf L (suc r) (entry M T r s) → (entry M T r s ≡ 0) ⊎ ((1 ≤ entry M T r s) × (entry M T r s ≤ flowCount L))
