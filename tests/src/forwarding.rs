@@ -145,8 +145,8 @@ mod tests {
         assert_eq!(record, running(1, 4, 0));
     }
 
-    /// Frame 2, ports 3, two counts: at position 0 the entries are 1, 9, 200 and at 1 they are
-    /// 2, 3, 0; 255 stands past the table.
+    /// Frame 2, ports 3: at position 0 the entries are 1, 9, 200, and at position 1 they are
+    /// 2, 3, 0; the 255 stands past the table.
     #[test]
     fn a_strange_entry_at_the_position_is_refused_with_its_place() {
         let table = [1, 2, 9, 3, 200, 0, 255];
@@ -207,6 +207,7 @@ mod tests {
         assert!(refused > 500 && done > 500, "{refused} refused, {done} done");
     }
 
+    /// And with one count fewer it is refused in just the slots that have the last flow.
     #[test]
     fn an_accepted_table_with_a_count_a_flow_is_never_refused() {
         let mut random = Random::new(10);
@@ -218,7 +219,6 @@ mod tests {
             for _ in 0..frame {
                 assert_eq!(slot(&mut record, &table, &mut waiting, &mut sent), Ok(0));
             }
-            // With a count less, the last flow's entries are strange.
             let last = plan.flows.len() as u8;
             let Some(fewer) = waiting.len().checked_sub(1) else { continue };
             let refused = |position: &u32| {
