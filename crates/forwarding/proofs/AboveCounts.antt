@@ -1,4 +1,4 @@
--- What a slot answers once its sizes are judged: a's being what they answer, and j the lowest output of which refusal 28 tells.
+-- What a slot answers once its sizes are judged. In each law a is what they answer, and j the lowest output of which refusal 28 tells.
 use Prim.Native.Nat.{ℕ, _≤_, _<_}
 use mathlib.Core.Path.{_≡_, sym, _∙_}
 use mathlib.Core.List.{List}
@@ -28,7 +28,7 @@ module _ (r : Running) (T W : List ℕ) (sentLength : ℕ) {a : Answer} (e : a �
   unfolding slotSizeAnswer slotAnswer
   size-refused d = refusal-passed-on sizes entries (doneWith (pos 0)) a e d
 
-  pub sizes-kept : a .number ≡ DONE → NoneHolds sizes
+  sizes-kept : a .number ≡ DONE → NoneHolds sizes
   unfolding slotSizeAnswer
   sizes-kept z = none-of-them sizes entries (doneWith (pos 0)) a e tt z
 
