@@ -1,10 +1,10 @@
 -- `forwarding::slot_size_answer` meets its contract: each way out rewrites by the tests that led there.
 use mathlib.Core.Path.{sym, _∙_}
 use native.Mathlib.Omega.{arith}
-use native.Mathlib.Nat.{mul-le-mul}
 use borrow.Author.Tests.{lt-ltb, le-ltb}
 use Rattle.answers.specs.Limits.{maxFrame, maxPorts}
 use Rattle.answers.proofs.Ranges.{inside}
+use Rattle.tables.proofs.Places.{size-of}
 use Rattle.forwarding.specs.Forwarding.{slotSizeAnswer}
 use borrow.Author.Needs.{needs}
 use Rattle.forwarding.proofs.slot_size_answer.Statement.{statement}
@@ -37,7 +37,7 @@ mul-if3 c =
     let r = c .before .before .before .before .before .before .before .args .running in
     let frame-good = inside {low = 1} {high = maxFrame} {x = r .frame} (sym (c .before .before .before .before .outside .ensures) ∙ c .before .before .before .if1 .left) in
     let ports-good = inside {low = 1} {high = maxPorts} {x = r .ports} (sym (c .before .before .outside2 .ensures) ∙ c .before .if2 .left) in
-    omega (arith, mul-le-mul (ports-good .at-most) (frame-good .at-most))
+    omega (arith, size-of frame-good ports-good)
 
 refusal-requires-3 : tie.Need-refusal-requires-3
 refusal-requires-3 c κs = search needs
