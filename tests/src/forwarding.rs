@@ -174,6 +174,20 @@ mod tests {
         }
     }
 
+    /// The largest entry in the last place of the largest table.
+    #[test]
+    fn a_strange_entry_at_the_limits_is_refused() {
+        let mut table = [0; 65_536];
+        table[65_535] = 255;
+        for (counts, answer) in [(254, Err(no_at(28, 65_535))), (255, Ok(0))] {
+            let (mut record, mut waiting) = (running(2_048, 32, 2_047), [1; 255]);
+            let (lent, mut sent) = (&mut waiting[..counts], [0; 32]);
+            assert_eq!(slot(&mut record, &table, lent, &mut sent), answer);
+            assert_eq!(sent[31], if answer.is_ok() { 255 } else { 0 });
+            assert_eq!(record.position, if answer.is_ok() { 0 } else { 2_047 });
+        }
+    }
+
     /// Any bytes: refused exactly if the column has an entry above the counts, and then nothing
     /// is changed. The column is found here by the remainders of the places.
     #[test]

@@ -106,6 +106,27 @@ fn entries_without_a_count() {
     slot_at(b"slot 1 with two counts", 1, &mut two);
 }
 
+// The largest entry in the last place of the largest table.
+fn last_slot(case: &[u8], waiting: &mut [u16]) {
+    let mut table = [0u8; MAX_PORTS * MAX_FRAME];
+    table[65535] = 255;
+    let mut sent = [0u8; MAX_PORTS];
+    let running = Running {
+        frame: 2048,
+        ports: 32,
+        position: 2047,
+    };
+    let after = forwarding::slot(running, &table, waiting, &mut sent);
+    print_answer(case, after.answer);
+}
+
+fn slots_at_their_limits() {
+    let mut fewer = [1u16; 254];
+    last_slot(b"slot 2047 of 32 rows with 254 counts", &mut fewer);
+    let mut most = [1u16; 255];
+    last_slot(b"slot 2047 of 32 rows with 255 counts", &mut most);
+}
+
 fn main() {
     cells_of_messages();
     frames_at_their_limits();
@@ -113,4 +134,5 @@ fn main() {
     tables_at_their_limits();
     offers_at_the_limit();
     entries_without_a_count();
+    slots_at_their_limits();
 }
