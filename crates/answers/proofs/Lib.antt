@@ -4,3 +4,4 @@ pub mod Ranges
 pub mod First
 pub mod Orders
 pub mod Sign
+pub mod Buffers

@@ -30,6 +30,16 @@ unfolding sum
 sum-le zero f g h = omega arith
 sum-le (suc n) f g h = omega (arith, sum-le n f g (λ k l. h k (omega arith)), h n (omega arith))
 
+-- the same, with one term below
+pub sum-less : (n : ℕ) (f g : ℕ → ℕ) (j : ℕ) → j < n → ((x : ℕ) → x < n → f x ≤ g x) → f j < g j → sum n f < sum n g
+unfolding sum
+sum-less zero f g j l h s = absurd (omega arith)
+sum-less (suc n) f g j l h s = go (ℕ-discrete j n) (λ d. sum-less n f g j d (λ x u. h x (omega arith)) s)
+  where
+    go : Dec (j ≡ n) → (j < n → sum n f < sum n g) → sum n f + f n < sum n g + g n
+    go (yes e) less = omega (arith, ap f e, ap g e, sum-le n f g (λ x u. h x (omega arith)))
+    go (no d) less = omega (arith, less (omega arith), h n (omega arith))
+
 pub sum-const : (n c : ℕ) → sum n (λ k. c) ≡ n * c
 unfolding sum
 sum-const zero c = sym (zero-mul c)

@@ -3,6 +3,7 @@ use Prim.Native.Nat.{ℕ}
 use mathlib.Core.Bool.{Bool, cond}
 use mathlib.Core.List.{List, [], _∷_}
 use lib.IntN.{ℤ, pos}
+use lib.Dec.{eqb}
 use Rattle.answers.specs.declared.Answer.{Answer}
 use Rattle.answers.specs.Numbers.{DONE}
 use Rattle.answers.specs.Lowest.{lowest, holdsSomewhere}
@@ -18,6 +19,10 @@ refusal n = answer n (pos 0)
 -- done, with the value that the call gives
 abbrev pub doneWith : ℤ → Answer
 doneWith d = answer DONE d
+
+-- the call is done
+abbrev pub isDone : Answer → Bool
+isDone a = eqb (a .number) DONE
 
 -- a refusal, and whether its condition holds
 pub record Rule : Type 0 where

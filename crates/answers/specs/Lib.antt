@@ -3,3 +3,4 @@ pub mod Limits
 pub mod Answers
 pub mod Lowest
 pub mod Sums
+pub mod Buffers

@@ -2,7 +2,7 @@
 use Prim.Native.Nat.{ℕ, zero, suc, _+_, _*_, _≤_, _<_}
 use mathlib.Core.Path.{_≡_, refl, sym, _∙_, ap}
 use mathlib.Core.Logic.{_⊎_, inl, inr}
-use mathlib.Core.Bool.{Bool, true, false, cond, _&&_, true≢false}
+use mathlib.Core.Bool.{Bool, true, false, cond, true≢false}
 use mathlib.Core.List.{List}
 use native.Mathlib.Omega.{arith}
 use native.Mathlib.Decide.{ℕ-discrete, decLt}
@@ -12,6 +12,7 @@ use lib.Dec.{eqb, ltb}
 use lib.ListN.{length, getD, set, drop, length-set}
 use lib.Seq.{getD-set-same, getD-set-other, drop-set-lt}
 use Rattle.answers.proofs.Lowest.{lowest-found}
+use Rattle.answers.proofs.Ranges.{both-true}
 use Rattle.answers.specs.Sums.{one}
 use Rattle.answers.proofs.Sums.{sum-change, term-le}
 use Rattle.tables.specs.Accepted.{entry}
@@ -80,10 +81,6 @@ pub unseen-some : (N : ℕ) (marks : List ℕ) (r : ℕ) → r < N → getD mark
 unfolding unseen
 unseen-some N marks r l e =
     omega (arith, term-le N (λ a. one (eqb (getD marks a 0) 0)) r l, ap (λ (x : ℕ). one (eqb x 0)) e)
-
-both-true : (a b : Bool) → (a && b) ≡ true → (a ≡ true) × (b ≡ true)
-both-true true b e = (refl, e)
-both-true false b e = absurd (true≢false (sym e))
 
 -- what the tests of a row tell of the search
 pub next-here : (M : ℕ) (L marks : List ℕ) (s y : ℕ) (T : List ℕ) (r : ℕ) → getD marks r 0 ≡ 0 → inputAt L (entry M T r s) ≡ y → holdsNext M L marks s y T r ≡ true

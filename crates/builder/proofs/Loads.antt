@@ -1,5 +1,5 @@
 -- A port that is asked for fewer cells than the frame has a slot free in an accepted table; and a port is asked for fewer while a cell of one of its flows is not placed.
-use Prim.Native.Nat.{ℕ, zero, suc, _+_, _-_, _/_, _≤_, _<_}
+use Prim.Native.Nat.{ℕ, suc, _-_, _/_, _≤_, _<_}
 use mathlib.Core.Path.{_≡_, refl, sym, _∙_, ap, subst}
 use mathlib.Core.Logic.{_⊎_, inl, inr}
 use mathlib.Core.Bool.{Bool, true, false, cond, true≢false}
@@ -10,7 +10,7 @@ use native.Mathlib.Nat.{mul-one}
 use borrow.Author.Tests.{eq-eqb, ne-eqb, eqb-false}
 use lib.Dec.{eqb}
 use Rattle.answers.specs.Sums.{sum, one}
-use Rattle.answers.proofs.Sums.{sum-le, sum-const, term-le, term-below}
+use Rattle.answers.proofs.Sums.{sum-less, sum-const, term-le, term-below}
 use Rattle.flows.specs.Flows.{perFlow, flowCount, IsFlow, inputOf, outputOf, cellsOf, comesFrom, goesTo, inputLoad, outputLoad}
 use Rattle.tables.specs.Accepted.{entry, FlowOf, Accepted}
 use Rattle.tables.proofs.Counting.{counted, by-slots}
@@ -53,16 +53,6 @@ module _ (M N : ℕ) (L T : List ℕ) (acc : Accepted M N L T) where
         found .1,
         λ r l d e. eqb-false _ _ (counted-not (λ k. comesFrom L k i) (entry M T r (found .0)) (found .2 r l) d) e,
       )
-
--- a sum whose terms are at most another's, and one of them less, is less
-sum-less : (n : ℕ) (f g : ℕ → ℕ) (j : ℕ) → j < n → ((x : ℕ) → x < n → f x ≤ g x) → f j < g j → sum n f < sum n g
-unfolding sum
-sum-less zero f g j l h s = absurd (omega arith)
-sum-less (suc n) f g j l h s = go (ℕ-discrete j n) (λ d. sum-less n f g j d (λ x u. h x (omega arith)) s)
-  where
-    go : Dec (j ≡ n) → (j < n → sum n f < sum n g) → sum n f + f n < sum n g + g n
-    go (yes e) less = omega (arith, ap f e, ap g e, sum-le n f g (λ x u. h x (omega arith)))
-    go (no d) less = omega (arith, less (omega arith), h n (omega arith))
 
 -- a list of the same flows with no flow's cells more, and flow k's less, asks less of both of k's ports
 module _ (L L′ : List ℕ) (same : SameFlows L L′) (k : ℕ) (flow : IsFlow L k)

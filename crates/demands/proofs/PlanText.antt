@@ -14,14 +14,14 @@ use lib.Dec.{ltb}
 use Rattle.answers.specs.declared.Answer.{Answer}
 use Rattle.answers.specs.Numbers.{TEXT-TOO-LONG, TEXT-NOT-OF-FORM, BUFFER-TOO-SMALL}
 use Rattle.answers.specs.Limits.{maxText}
-use Rattle.answers.specs.Answers.{Rule, answer, refusal, doneWith, _when_}
+use Rattle.answers.specs.Answers.{Rule, answer, refusal, doneWith, _when_, isDone}
 use Rattle.answers.proofs.First.{given-exactly, first-given}
 use Rattle.flows.specs.Flows.{perFlow, flowCount, listRules, InRange}
 use Rattle.plan_text.specs.declared.reading.Plan.{Plan}
 use Rattle.plan_text.specs.Digits.{spelled, digits}
 use Rattle.plan_text.specs.Form.{maxNumber, flowLines, planText, OfForm, LongestBeginning}
 use Rattle.plan_text.specs.Reading.{start, lived, ofForm, frameIn, portsIn, listIn}
-use Rattle.plan_text.specs.Plans.{isDone, over, readAnswer, readPlan, readInto, writeAnswer, writtenInto}
+use Rattle.plan_text.specs.Plans.{over, readAnswer, readPlan, readInto, writeAnswer, writtenInto}
 use Rattle.plan_text.proofs.Recognised.{recognised-form, form-recognised, form-runs, form-plan}
 use Rattle.plan_text.proofs.Longest.{lived-longest}
 use Rattle.plan_text.proofs.Digits.{digits-of, all-digits, each-digit, digits-bytes, digits-first, digits-length, digits-small, digits-injective}

@@ -107,11 +107,6 @@ served (suc r) f W = taken (served r f W) (f r)
 abbrev pub outputByte : (ℕ → ℕ) → List ℕ → ℕ → ℕ
 outputByte f W r = sentByte (served r f W) (f r)
 
--- the sent buffer S once the first outputs were served; its other bytes stay
-unfoldable pub written : ℕ → (ℕ → ℕ) → List ℕ → List ℕ → List ℕ
-written zero f W S = S
-written (suc r) f W S = set (written r f W S) r (outputByte f W r)
-
 -- the position goes up by one, from M - 1 to 0
 abbrev pub nextPosition : ℕ → ℕ → ℕ
 nextPosition M p = cond (eqb (p + 1) M) 0 (p + 1)

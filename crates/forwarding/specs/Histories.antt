@@ -5,11 +5,12 @@ use mathlib.Core.List.{List, [], _∷_}
 use lib.ListN.{length, replicate}
 use lib.Dec.{eqb}
 use Rattle.answers.specs.declared.Answer.{Answer}
-use Rattle.answers.specs.Numbers.{DONE}
+use Rattle.answers.specs.Answers.{isDone}
 use Rattle.answers.specs.Sums.{sum, one}
+use Rattle.answers.specs.Buffers.{written}
 use Rattle.forwarding.specs.declared.Running.{Running}
 use Rattle.forwarding.specs.declared.Outcome.{Outcome}
-use Rattle.forwarding.specs.Forwarding.{freshStartAnswer, offerAnswer, slotAnswer, entriesNow, added, served, outputByte, written, nextPosition}
+use Rattle.forwarding.specs.Forwarding.{freshStartAnswer, offerAnswer, slotAnswer, entriesNow, added, served, outputByte, nextPosition}
 
 -- what the calls are about: the running record and the waiting counts
 pub record State : Type 0 where
@@ -37,7 +38,7 @@ answerOf st (aSlot T sentLength) = slotAnswer (st .running) T (st .waiting) sent
 
 -- the call is done
 abbrev pub done : State → Call → Bool
-done st c = eqb (answerOf st c .number) DONE
+done st c = isDone (answerOf st c)
 
 -- the record after a slot
 abbrev pub advanced : Running → Running
@@ -58,10 +59,10 @@ step st c = cond (done st c) (carriedOut st c) st
 unfoldable pub outcomeOf : State → Call → Outcome
 outcomeOf st c = record { answer = answerOf st c; running = step st c .running }
 
--- the sent buffer S after a slot that was lent the table T
+-- the sent buffer S after a slot that was lent the table T: each output's byte, the other bytes stay
 unfoldable pub sentAfter : State → List ℕ → List ℕ → List ℕ
 sentAfter st T S =
-    cond (done st (aSlot T (length S))) (written (st .running .ports) (entriesNow (st .running) T) (st .waiting) S) S
+    cond (done st (aSlot T (length S))) (written (st .running .ports) (outputByte (entriesNow (st .running) T) (st .waiting)) S) S
 
 -- the state after all the calls
 unfoldable pub run : State → List Call → State

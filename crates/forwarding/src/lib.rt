@@ -5,8 +5,9 @@ ghost use mathlib.Core.Path.{_≡_};
 ghost use lib.ListN.{length, replicate};
 ghost use Rattle.answers.specs.Limits.{maxDetail};
 ghost use Rattle.answers.specs.Lowest.{lowest};
+ghost use Rattle.answers.specs.Buffers.{written};
 ghost use Rattle.tables.specs.Check.{Holds};
-ghost use Rattle.forwarding.specs.Forwarding.{freshStartAnswer, offerAnswer, entriesNow, placeNow, aboveCounts, slotSizeAnswer, slotAnswer, sentByte, taken, served, written};
+ghost use Rattle.forwarding.specs.Forwarding.{freshStartAnswer, offerAnswer, entriesNow, placeNow, aboveCounts, slotSizeAnswer, slotAnswer, sentByte, taken, served, outputByte};
 ghost use Rattle.forwarding.specs.Histories.{advanced};
 ghost use Rattle.forwarding.specs.AboveCounts.{AllCounted};
 ghost use Rattle.forwarding.specs.Promises.{FreshStarted, Offered, SlotServed};
@@ -173,7 +174,7 @@ fn serve(running: Running, table: &[u8], waiting: &mut [u16], sent: &mut [u8])
     requires counted { ⌜ AllCounted running (now table) (now waiting) ⌝ }
     requires room { ⌜ running .ports ≤ length (now sent) ⌝ }
     ensures counts { λ _. ⌜ now (waiting .exit) ≡ served (running .ports) (entriesNow running (now (table .entry))) (now (waiting .entry)) ⌝ }
-    ensures bytes { λ _. ⌜ now (sent .exit) ≡ written (running .ports) (entriesNow running (now (table .entry))) (now (waiting .entry)) (now (sent .entry)) ⌝ }
+    ensures bytes { λ _. ⌜ now (sent .exit) ≡ written (running .ports) (outputByte (entriesNow running (now (table .entry))) (now (waiting .entry))) (now (sent .entry)) ⌝ }
 {
     let mut j = 0;
     while j < running.ports {

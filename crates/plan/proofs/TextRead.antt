@@ -1,27 +1,27 @@
 -- What reading a text leaves for the builder: its frame, its ports and its list, as many numbers as the detail says.
-use Prim.Native.Nat.{ℕ, _+_, _*_, _≤_, _<_}
+use Prim.Native.Nat.{ℕ, _*_, _≤_}
 use mathlib.Core.Path.{_≡_, refl, sym, _∙_, ap, subst}
-use mathlib.Core.Bool.{Bool, true, false, cond}
-use mathlib.Core.List.{List, _++_}
+use mathlib.Core.Bool.{Bool, true, cond}
+use mathlib.Core.List.{List}
 use native.Mathlib.Omega.{arith}
 use borrow.Author.Tests.{eq-eqb, ne-eqb}
 use lib.IntN.{ℤ, pos, natAbs}
 use lib.ListN.{length, take, drop}
 use lib.Seq.{take-at}
 use mir.Syntax.{w32}
-use mir.Val.{SFits, toZ, ofZ}
+use mir.Val.{toZ, ofZ}
 use mir.ValLaws.{toZ-ofZ}
 use Rattle.answers.specs.declared.Answer.{Answer}
 use Rattle.answers.specs.Numbers.{DONE}
+use Rattle.answers.specs.Answers.{isDone}
 use Rattle.answers.specs.Limits.{maxFlows}
 use Rattle.flows.specs.Flows.{perFlow, flowCount, InRange}
 use Rattle.tables.specs.Accepted.{Accepted}
 use Rattle.builder.specs.Build.{buildAnswer, Built}
 use Rattle.plan_text.specs.declared.reading.Plan.{Plan}
 use Rattle.plan_text.specs.Reading.{frameIn, portsIn, listIn}
-use Rattle.plan_text.specs.Plans.{isDone, over, overIfDone, planIfDone, readAnswer, readPlan, readInto}
+use Rattle.plan_text.specs.Plans.{over, overIfDone, readAnswer, readPlan, readInto}
 use Rattle.plan_text.proofs.RoundTrip.{ReadDone, read-done}
-use Rattle.plan.specs.declared.respond.Reply.{Reply}
 use Rattle.plan.specs.Responding.{listRoom, respondAnswer, Responded}
 
 module _ (text buffer : List ℕ) (room : length buffer ≡ listRoom) (p : Plan) (e : p ≡ readPlan text (length buffer)) where

@@ -1,17 +1,18 @@
 -- What the program answers to a text: the reader's answer if it refuses, and otherwise the builder's.
 use Prim.Native.Nat.{ℕ, _*_}
 use mathlib.Core.Path.{_≡_}
-use mathlib.Core.Bool.{Bool, cond}
+use mathlib.Core.Bool.{cond}
 use mathlib.Core.List.{List}
 use lib.ListN.{length, drop}
 use Rattle.answers.specs.declared.Answer.{Answer}
 use Rattle.answers.specs.Numbers.{DONE}
+use Rattle.answers.specs.Answers.{isDone}
 use Rattle.answers.specs.Limits.{maxFlows}
 use Rattle.flows.specs.Flows.{perFlow, InRange}
 use Rattle.tables.specs.Accepted.{Accepted}
 use Rattle.builder.specs.Build.{buildAnswer}
 use Rattle.plan_text.specs.Reading.{frameIn, portsIn, listIn}
-use Rattle.plan_text.specs.Plans.{isDone, readAnswer}
+use Rattle.plan_text.specs.Plans.{readAnswer}
 use Rattle.plan.specs.declared.respond.Reply.{Reply}
 
 -- the numbers that a list of the most flows has: what is lent to the reader

@@ -7,13 +7,14 @@ use native.Mathlib.Omega.{arith}
 use borrow.Author.Tests.{eqb-true, eq-eqb, lt-ltb}
 use lib.ListN.{length, getD, take, drop}
 use lib.Dec.{eqb}
+use Rattle.answers.proofs.Ranges.{both-true}
 use Rattle.plan_text.specs.declared.reader.Field.{Field}
 use Rattle.plan_text.specs.declared.reader.Field.the-variants.{Frame, Ports, Input, Output, Cells}
 use Rattle.plan_text.specs.declared.reader.Reader.{Reader}
 use Rattle.plan_text.specs.Digits.{digits}
 use Rattle.plan_text.specs.Form.{maxNumber, planText, AllShort, OfForm}
 use Rattle.plan_text.specs.Reading.{keyOf, isInput, mayEnd, beforeField, start, lived, pastAll, numbersIn, ofForm, frameIn, portsIn, listIn}
-use Rattle.plan_text.proofs.Standing.{both, Standing, stands-start}
+use Rattle.plan_text.proofs.Standing.{Standing, stands-start}
 use Rattle.plan_text.proofs.Running.{Runs}
 use Rattle.plan_text.proofs.Fields.{OfThrees, fieldsText, fieldAfter, plan-fields, threes-after, after-threes, fields-run}
 use Rattle.plan_text.proofs.SoFar.{begun, SoFar, so-far}
@@ -82,7 +83,7 @@ nothing-begun : (q : Reader) → Standing q → mayEnd q ≡ true → begun q �
 nothing-begun q s e = ap (λ (k : Bool). take (q .matched) (keyOf (q .field)) ++ cond k (digits (q .value)) []) fresh ∙ ap (λ (n : ℕ). take n (keyOf (q .field)) ++ []) none
   where
     parts : (isInput (q .field) ≡ true) × (eqb (q .matched) 0 ≡ true)
-    parts = both (isInput (q .field)) (eqb (q .matched) 0) e
+    parts = both-true (isInput (q .field)) (eqb (q .matched) 0) e
 
     none : q .matched ≡ 0
     none = eqb-true (q .matched) 0 (parts .1)
@@ -102,13 +103,13 @@ unfolding ofForm
 recognised-form text e = subst OfForm (sym same) (fields-form (numbersIn start text) (read .short) (sym (ap isInput (read .in-field)) ∙ input))
   where
     parts : (eqb (lived start text) (length text) ≡ true) × (mayEnd (pastAll start text) ≡ true)
-    parts = both (eqb (lived start text) (length text)) (mayEnd (pastAll start text)) e
+    parts = both-true (eqb (lived start text) (length text)) (mayEnd (pastAll start text)) e
 
     read : SoFar start text
     read = so-far start text stands-start (eqb-true (lived start text) (length text) (parts .0))
 
     input : isInput ((pastAll start text) .field) ≡ true
-    input = both (isInput ((pastAll start text) .field)) (eqb ((pastAll start text) .matched) 0) (parts .1) .0
+    input = both-true (isInput ((pastAll start text) .field)) (eqb ((pastAll start text) .matched) 0) (parts .1) .0
 
     same : text ≡ fieldsText Frame (numbersIn start text)
     same =

@@ -7,7 +7,7 @@ use borrow.Author.Tests.{eqb-true, ltb-true, not-true}
 use lib.ListN.{length, getD}
 use lib.Dec.{eqb}
 use Rattle.answers.specs.Limits.{outside}
-use Rattle.answers.proofs.Ranges.{inside}
+use Rattle.answers.proofs.Ranges.{inside, both-true}
 use Rattle.plan_text.specs.declared.reader.Field.{Field}
 use Rattle.plan_text.specs.declared.reader.Reader.{Reader}
 use Rattle.plan_text.specs.Form.{maxNumber}
@@ -39,10 +39,6 @@ past-end r b e d =
     ap (λ (k : Bool). cond k (pastKeyByte r) (cond (isDigit b) (pastDigit r b) (beforeField (nextField (r .field))))) e
     ∙ ap (λ (k : Bool). cond k (pastDigit r b) (beforeField (nextField (r .field)))) d
 
-pub both : (a b : Bool) → (a && b) ≡ true → (a ≡ true) × (b ≡ true)
-both true b e = (refl, e)
-both false b e = absurd (true≢false (sym e))
-
 pub taken : (r : Reader) (b : ℕ) → takes r b ≡ true → Taken r b
 unfolding takes
 taken r b e = go (inKey r) (isDigit b) refl refl e
@@ -52,7 +48,7 @@ taken r b e = go (inKey r) (isDigit b) refl refl e
     go true d ek ed h = of-key ek (eqb-true _ _ h) (past-key r b ek)
     go false true ek ed h = digit ek ed h (past-digit r b ek ed)
     go false false ek ed h =
-        let x = both (r .started) (eqb b (endOf (r .field))) h in
+        let x = both-true (r .started) (eqb b (endOf (r .field))) h in
         ending ek ed (x .0) (eqb-true _ _ (x .1)) (past-end r b ek ed)
 
 -- the number so far has at most five digits and is 0 before its first; it begins behind the key

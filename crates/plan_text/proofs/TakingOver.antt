@@ -1,8 +1,8 @@
 -- How a plan's numbers are judged and taken over, and how a text's answer comes to be that of its numbers.
 use Prim.Native.Nat.{ℕ, _-_, _≤_, _<_}
-use mathlib.Core.Path.{_≡_, refl, sym, _∙_, ap}
-use mathlib.Core.Bool.{Bool, true, false, cond}
-use mathlib.Core.List.{List, [], _∷_, _++_}
+use mathlib.Core.Path.{_≡_, sym, _∙_, ap}
+use mathlib.Core.Bool.{Bool, cond}
+use mathlib.Core.List.{List, [], _∷_}
 use borrow.Author.Tests.{ne-eqb, lt-ltb, le-ltb}
 use native.Mathlib.Omega.{arith}
 use lib.ListN.{length, getD, take, drop, length-drop}
@@ -14,8 +14,7 @@ use Rattle.answers.specs.Numbers.{DONE, BUFFER-TOO-SMALL}
 use Rattle.answers.specs.Answers.{Rule, refusal, doneWith, _when_, first}
 use Rattle.answers.proofs.First.{refusal-passed-on, goes-on}
 use Rattle.flows.specs.Flows.{flowCount, listRules, listAnswer}
-use Rattle.plan_text.specs.declared.reading.Plan.{Plan}
-use Rattle.plan_text.specs.Plans.{isDone, over, planOf, planIfDone, overIfDone, roomRules, takeAnswer, takenPlan, takenInto, writeAnswer, writtenInto}
+use Rattle.plan_text.specs.Plans.{over, planOf, planIfDone, overIfDone, roomRules, takeAnswer, takenPlan, takenInto, writeAnswer, writtenInto}
 use Rattle.plan_text.specs.Form.{planText}
 
 -- on a refusal frame and ports are 0 and the buffer stays

@@ -2,7 +2,7 @@
 use Prim.Native.Nat.{ℕ, zero, suc, min, _+_, _-_, _*_, _/_, _%_, _≤_, _<_}
 use mathlib.Core.Path.{_≡_, refl, sym, _∙_, ap, subst}
 use mathlib.Core.Bool.{Bool, true, false, not, cond, _||_}
-use mathlib.Core.List.{List, [], _∷_, _++_, map}
+use mathlib.Core.List.{List, [], _∷_}
 use native.Mathlib.Omega.{arith}
 use native.Mathlib.Nat.{add-zero}
 use borrow.Author.Tests.{lt-ltb, le-ltb, ltb-true, ltb-false, eqb-true}
@@ -13,15 +13,14 @@ use lib.Seq.{ext-getD}
 use Rattle.answers.specs.declared.Answer.{Answer}
 use Rattle.answers.specs.Numbers.{DONE, FRAME-OUT-OF-RANGE, PORTS-OUT-OF-RANGE, LIST-MISSHAPEN, FLOW-OUT-OF-RANGE, BUFFER-TOO-SMALL}
 use Rattle.answers.specs.Limits.{maxFrame, maxPorts, maxFlows, outside, Within}
-use Rattle.answers.specs.Lowest.{lowest, holdsSomewhere}
-use Rattle.answers.specs.Answers.{Rule, answer, refusal, doneWith, _when_, namingLowest, first}
+use Rattle.answers.specs.Lowest.{lowest}
+use Rattle.answers.specs.Answers.{answer, refusal, doneWith, _when_, isDone}
 use Rattle.answers.proofs.Ranges.{inside}
 use Rattle.answers.proofs.Lowest.{lowest-agree}
 use Rattle.answers.proofs.First.{none-first, done-exactly}
 use Rattle.flows.proofs.Shape.{in-range}
 use Rattle.flows.specs.Flows.{perFlow, flowCount, IsFlow, inputOf, outputOf, cellsOf, misshapen, flowOutOfRange, outputsOutOfRange, InRange, listRules}
-use Rattle.plan_text.specs.declared.reading.Plan.{Plan}
-use Rattle.plan_text.specs.Plans.{maxWord, inWords, isDone, over, planOf, planIfDone, overIfDone, takeRules, takeAnswer, takenPlan, takenInto}
+use Rattle.plan_text.specs.Plans.{maxWord, inWords, over, planOf, planIfDone, overIfDone, takeRules, takeAnswer, takenPlan, takenInto}
 
 -- the number as 16 bits keep it
 abbrev word : ℕ → ℕ

@@ -1,24 +1,20 @@
 -- What the reader and the writer answer and leave, refusals included.
 use Prim.Native.Nat.{ℕ, min, _+_, _≤_}
 use mathlib.Core.Path.{_≡_}
-use mathlib.Core.Bool.{Bool, not, cond}
+use mathlib.Core.Bool.{not, cond}
 use mathlib.Core.List.{List, [], _∷_, _++_, map}
 use lib.ListN.{length, getD, take, drop}
 use lib.IntN.{pos}
-use lib.Dec.{eqb, ltb}
+use lib.Dec.{ltb}
 use Rattle.answers.specs.declared.Answer.{Answer}
-use Rattle.answers.specs.Numbers.{DONE, TEXT-TOO-LONG, TEXT-NOT-OF-FORM, BUFFER-TOO-SMALL}
+use Rattle.answers.specs.Numbers.{TEXT-TOO-LONG, TEXT-NOT-OF-FORM, BUFFER-TOO-SMALL}
 use Rattle.answers.specs.Limits.{maxText}
-use Rattle.answers.specs.Answers.{Rule, answer, refusal, doneWith, _when_, first}
+use Rattle.answers.specs.Answers.{Rule, answer, refusal, doneWith, isDone, _when_, first}
 use Rattle.flows.specs.Flows.{flowCount, listRules}
 use Rattle.plan_text.specs.declared.reading.Plan.{Plan}
 use Rattle.plan_text.specs.declared.reading.HowFar.{HowFar}
 use Rattle.plan_text.specs.Form.{planText}
 use Rattle.plan_text.specs.Reading.{start, lived, pastAll, numbersIn, ofForm, frameIn, portsIn, listIn}
-
--- the call is done
-abbrev pub isDone : Answer → Bool
-isDone a = eqb (a .number) DONE
 
 -- the buffer with the list at its front; what lies past it stays
 abbrev pub over : List ℕ → List ℕ → List ℕ

@@ -1,9 +1,9 @@
 -- The check's conditions and the definition of accepted say the same of a table.
-use Prim.Native.Nat.{ℕ, zero, suc, _+_, _*_, _/_, _%_, _≤_, _<_}
+use Prim.Native.Nat.{ℕ, zero, suc, _+_, _*_, _/_, _%_, _<_}
 use mathlib.Core.Path.{_≡_, refl, sym, _∙_, ap, subst}
 use mathlib.Core.Logic.{_⊎_, inl, inr}
 use mathlib.Core.Bool.{Bool, true, false, not, _&&_, _||_, true≢false}
-use mathlib.Core.List.{List, [], _∷_}
+use mathlib.Core.List.{List}
 use native.Mathlib.Omega.{arith}
 use native.Mathlib.Decide.{ℕ-discrete, decLt}
 use native.Mathlib.Nat.{div-add-mod', mod-lt, div-lt-iff-lt-mul, mul-zero}
@@ -11,22 +11,14 @@ use borrow.Author.Tests.{eq-eqb, ne-eqb, eqb-true, eqb-false, not-true, not-fals
 use lib.Dec.{eqb}
 use lib.ListN.{getD}
 use lib.Arith.{digits-lt, digits-div}
-use Rattle.answers.specs.Limits.{outside, Within}
+use Rattle.answers.specs.Limits.{outside}
 use Rattle.answers.specs.Lowest.{lowest, holdsSomewhere}
-use Rattle.answers.proofs.Ranges.{inside, within-test, either-false}
+use Rattle.answers.proofs.Ranges.{inside, within-test, either-false, both-true, second-false}
 use Rattle.answers.proofs.Lowest.{Nowhere, lowest-found, somewhere-false, nowhere-test, somewhere-test}
 use Rattle.answers.proofs.First.{NoneHolds}
-use Rattle.flows.specs.Flows.{flowCount, IsFlow, inputOf, outputOf, cellsOf, goesTo}
-use Rattle.tables.specs.Accepted.{entry, times, FlowOf, Accepted, NotOfRow, InputTwice, CountWrong}
+use Rattle.flows.specs.Flows.{flowCount, inputOf, goesTo}
+use Rattle.tables.specs.Accepted.{entry, FlowOf, Accepted, NotOfRow, InputTwice, CountWrong}
 use Rattle.tables.specs.Check.{noFlowOf, notOfRow, shareInput, inputTwice, countWrong, entryRules}
-
-neither : (a b : Bool) → (a && b) ≡ false → a ≡ true → b ≡ false
-neither true b e t = e
-neither false b e t = absurd (true≢false (sym t))
-
-both : (a b : Bool) → (a && b) ≡ true → (a ≡ true) × (b ≡ true)
-both true b e = (refl, e)
-both false b e = absurd (true≢false (sym e))
 
 -- an entry that refusal 8 does not name is 0 or a flow of its row, and the other way round
 entry-right : (L : List ℕ) (j e : ℕ) → (not (eqb e 0) && noFlowOf L j e) ≡ false → (e ≡ 0) ⊎ FlowOf L j e
@@ -35,7 +27,7 @@ entry-right L j e h = go (ℕ-discrete e 0)
     go : Dec (e ≡ 0) → (e ≡ 0) ⊎ FlowOf L j e
     go (yes z) = inl z
     go (no d) =
-        let both = either-false (outside 1 (flowCount L) e) (not (goesTo L e j)) (neither (not (eqb e 0)) (noFlowOf L j e) h (ap not (ne-eqb e 0 d))) in
+        let both = either-false (outside 1 (flowCount L) e) (not (goesTo L e j)) (second-false (not (eqb e 0)) (noFlowOf L j e) h (ap not (ne-eqb e 0 d))) in
         inr (record { is-flow = inside (both .0); its-output = not-false (goesTo L e j) (both .1) })
 
 right-entry : (L : List ℕ) (j e : ℕ) → (e ≡ 0) ⊎ FlowOf L j e → (not (eqb e 0) && noFlowOf L j e) ≡ false
@@ -89,8 +81,8 @@ module _ (M N : ℕ) (L T : List ℕ) where
   shared : (s a b : ℕ) → shareInput M L T s a b ≡ true
       → (entry M T a s ≡ 0 → ⊥) × (entry M T b s ≡ 0 → ⊥) × (inputOf L (entry M T a s) ≡ inputOf L (entry M T b s))
   shared s a b e =
-      let x = both (not (eqb (entry M T a s) 0)) (not (eqb (entry M T b s) 0) && eqb (inputOf L (entry M T a s)) (inputOf L (entry M T b s))) e in
-      let y = both (not (eqb (entry M T b s) 0)) (eqb (inputOf L (entry M T a s)) (inputOf L (entry M T b s))) (x .1) in
+      let x = both-true (not (eqb (entry M T a s) 0)) (not (eqb (entry M T b s) 0) && eqb (inputOf L (entry M T a s)) (inputOf L (entry M T b s))) e in
+      let y = both-true (not (eqb (entry M T b s) 0)) (eqb (inputOf L (entry M T a s)) (inputOf L (entry M T b s))) (x .1) in
       (eqb-false _ _ (not-true _ (x .0)), eqb-false _ _ (not-true _ (y .0)), eqb-true _ _ (y .1))
 
   -- refusal 9's test at a slot says that two rows hold flows of one input there

@@ -4,11 +4,11 @@ use mathlib.Core.List.{List, [], _∷_}
 use mathlib.Core.Bool.{Bool, cond}
 use lib.ListN.{length, take, drop}
 use lib.IntN.{pos}
-use lib.Dec.{ltb, eqb}
+use lib.Dec.{ltb}
 use Rattle.answers.specs.declared.Answer.{Answer}
-use Rattle.answers.specs.Numbers.{DONE, FRAME-OUT-OF-RANGE, PORTS-OUT-OF-RANGE, TABLE-TOO-SHORT, OUTPUT-OUT-OF-RANGE}
+use Rattle.answers.specs.Numbers.{FRAME-OUT-OF-RANGE, PORTS-OUT-OF-RANGE, TABLE-TOO-SHORT, OUTPUT-OUT-OF-RANGE}
 use Rattle.answers.specs.Limits.{maxFrame, maxPorts, outside}
-use Rattle.answers.specs.Answers.{Rule, refusal, doneWith, _when_, first}
+use Rattle.answers.specs.Answers.{Rule, refusal, doneWith, isDone, _when_, first}
 
 -- the refusals of a row, in their order
 abbrev pub rowRules : ℕ → ℕ → ℕ → ℕ → List Rule
@@ -25,7 +25,7 @@ rowAnswer M N size j = first (rowRules M N size j) (doneWith (pos 0))
 
 -- output j's row is there: no refusal is due
 abbrev pub rowThere : ℕ → ℕ → ℕ → ℕ → Bool
-rowThere M N size j = eqb ((rowAnswer M N size j) .number) DONE
+rowThere M N size j = isDone (rowAnswer M N size j)
 
 -- where the part begins, from the table's first byte: (j - 1)·M, and 0 on a refusal
 abbrev pub rowStart : ℕ → ℕ → ℕ → ℕ → ℕ

@@ -4,10 +4,11 @@ use mathlib.Core.Path.{_≡_, refl, sym, _∙_, ap, subst}
 use mathlib.Core.List.{List}
 use native.Mathlib.Omega.{arith}
 use lib.ListN.{length, getD, length-set}
+use Rattle.answers.specs.Buffers.{written}
 use Rattle.tables.proofs.Places.{place-within, place-bound}
 use Rattle.forwarding.specs.declared.Running.{Running}
-use Rattle.forwarding.specs.Forwarding.{entriesNow, sentByte, taken, served, written}
-use Rattle.forwarding.proofs.Serving.{served-more, written-more}
+use Rattle.forwarding.specs.Forwarding.{entriesNow, sentByte, taken, served, outputByte}
+use Rattle.forwarding.proofs.Serving.{served-more, byte-written}
 use Rattle.forwarding.proofs.serve.Statement.{statement}
 use Rattle.forwarding.proofs.serve.Tie as tie
 
@@ -17,7 +18,7 @@ record Served (running : Running) (table waiting₀ sent₀ waiting sent : List 
   same-counts : length waiting ≡ length waiting₀
   same-room : length sent ≡ length sent₀
   counts : waiting ≡ served j (entriesNow running table) waiting₀
-  bytes : sent ≡ written j (entriesNow running table) waiting₀ sent₀
+  bytes : sent ≡ written j (outputByte (entriesNow running table) waiting₀) sent₀
 
 abbrev Inv-loop : tie.InvT-loop
 Inv-loop running table waiting₀ sent₀ j₀ waiting sent j = Served running table waiting₀ sent₀ waiting sent j
@@ -72,7 +73,7 @@ loop-again c =
       same-counts = call .kept .0 ∙ l .inv .same-counts;
       same-room = simp length-set (l .inv .same-room);
       counts = served-more (l .j) f (a .waiting .now) (l .waiting) (call .last .0) (l .inv .counts) (call .ensures .1 ∙ ap (λ (e : ℕ). taken (l .waiting) e) its);
-      bytes = written-more (l .j) f (a .waiting .now) (a .sent .now) (l .waiting) (l .sent) (call .result) (l .inv .counts) (l .inv .bytes) (call .ensures .0 ∙ ap (λ (e : ℕ). sentByte (l .waiting) e) its);
+      bytes = byte-written (l .j) f (a .waiting .now) (a .sent .now) (l .waiting) (l .sent) (call .result) (l .inv .counts) (l .inv .bytes) (call .ensures .0 ∙ ap (λ (e : ℕ). sentByte (l .waiting) e) its);
     }
 
 same-length : tie.Need-same-length Inv-loop μ-loop
@@ -88,7 +89,7 @@ returns c =
     let f = entriesNow (a .running) (a .table .now) in
     let all : l .j ≡ a .running .ports = omega arith in (
       l .inv .counts ∙ ap (λ (n : ℕ). served n f (a .waiting .now)) all,
-      l .inv .bytes ∙ ap (λ (n : ℕ). written n f (a .waiting .now) (a .sent .now)) all,
+      l .inv .bytes ∙ ap (λ (n : ℕ). written n (outputByte f (a .waiting .now)) (a .sent .now)) all,
     )
 
 pub serve-spec : {M : Type 1} → statement M
