@@ -43,6 +43,30 @@ maxBits = 10000000
 abbrev pub maxText : ℕ
 maxText = 8192
 
+-- links of the shore network: 0 to this; a message's set of links has a bit for each
+abbrev pub maxCycleLinks : ℕ
+maxCycleLinks = 32
+
+-- messages of the shore network: 0 to this
+abbrev pub maxMessages : ℕ
+maxMessages = 64
+
+-- cycles of a run: 1 to this
+abbrev pub maxCycles : ℕ
+maxCycles = 1024
+
+-- depth of the shore network, in switches: 1 to this
+abbrev pub maxDepth : ℕ
+maxDepth = 64
+
+-- nodes of the shore network: 1 to this
+abbrev pub maxNodes : ℕ
+maxNodes = 64
+
+-- a transmission time or a switch's latency there: 0 to this
+abbrev pub maxTime : ℕ
+maxTime = 10000
+
 -- a detail that is no signed value is below this, so that it fits 32 bits with a sign
 abbrev pub maxDetail : ℕ
 maxDetail = 2147483648

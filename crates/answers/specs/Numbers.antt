@@ -103,3 +103,19 @@ DELAY-OUT-OF-RANGE = 25
 -- an entry at the record's position is above the number of waiting counts; detail: the place in the table, from 0, of the lowest output's such entry
 abbrev pub ENTRY-ABOVE-COUNTS : ℕ
 ENTRY-ABOVE-COUNTS = 28
+
+-- a message's set of links is empty or has a link that is not there, or its size is 0; detail: the lowest such message, from 0
+abbrev pub MESSAGE-MISSHAPEN : ℕ
+MESSAGE-MISSHAPEN = 30
+
+-- a message's size is above the window of a link on its path; detail: the lowest such message, from 0
+abbrev pub MESSAGE-ABOVE-WINDOW : ℕ
+MESSAGE-ABOVE-WINDOW = 31
+
+-- depth, nodes or a time of equation 1 are out of range
+abbrev pub TRD-ASKED-OUT-OF-RANGE : ℕ
+TRD-ASKED-OUT-OF-RANGE = 32
+
+-- too many links or messages, cycles of a run that are not 1 to their limit, or lists whose lengths do not belong together
+abbrev pub CYCLES-MISSIZED : ℕ
+CYCLES-MISSIZED = 34

@@ -64,6 +64,14 @@ pub const DELAY_OUT_OF_RANGE: u32 = 25;
 
 pub const ENTRY_ABOVE_COUNTS: u32 = 28;
 
+pub const MESSAGE_MISSHAPEN: u32 = 30;
+
+pub const MESSAGE_ABOVE_WINDOW: u32 = 31;
+
+pub const TRD_ASKED_OUT_OF_RANGE: u32 = 32;
+
+pub const CYCLES_MISSIZED: u32 = 34;
+
 pub const MAX_FRAME: usize = 2048;
 
 pub const MAX_PORTS: usize = 32;
@@ -83,6 +91,18 @@ pub const MAX_PERIOD: usize = 1000000;
 pub const MAX_BITS: usize = 10000000;
 
 pub const MAX_TEXT: usize = 8192;
+
+pub const MAX_CYCLE_LINKS: usize = 32;
+
+pub const MAX_MESSAGES: usize = 64;
+
+pub const MAX_CYCLES: usize = 1024;
+
+pub const MAX_DEPTH: usize = 64;
+
+pub const MAX_NODES: usize = 64;
+
+pub const MAX_TIME: usize = 10000;
 
 // An answer for which the list names no detail.
 pub fn refusal(number: u32) -> Answer
