@@ -7,10 +7,10 @@ use crate::forwarding::Running;
 use crate::{delays, forwarding, table, text};
 use std::fmt::Write;
 
-const ROUNDS: u32 = 12_000;
+pub const ROUNDS: u32 = 12_000;
 const SEED: u64 = 20_261_115;
 
-type Edges = [u32; 10];
+pub type Edges = [u32; 10];
 const FRAMES: Edges = [0, 1, 2, 3, 5, 8, 60, MOST_FRAME, MOST_FRAME + 1, 4000000000];
 const PORTS: Edges = [0, 1, 2, 3, 4, 8, 32, 33, 4000000000, 1];
 const DEADLINES: Edges = [
@@ -46,7 +46,7 @@ const COUNTS: Edges = [0, 1, 2, 3, 5, 10, 100, 254, 255, 256];
 const OFFERS: Edges = [0, 1, 2, 5, 100, 3999, 4000, 4001, 40000, 65535];
 
 /// The buffers live through the whole run, so a byte left wrong by one call shows later.
-struct Calls {
+pub struct Calls {
     state: u64,
     list: [u16; 800],
     table: [u8; 2600],
@@ -57,12 +57,12 @@ struct Calls {
     lines: String,
 }
 
-fn digest<T: Copy + Into<u64>>(numbers: &[T]) -> u64 {
+pub fn digest<T: Copy + Into<u64>>(numbers: &[T]) -> u64 {
     numbers.iter().fold(7, |d, &x| (d * 257 + x.into() + 1) % 1_000_003)
 }
 
 impl Calls {
-    fn new() -> Calls {
+    pub fn new() -> Calls {
         Calls {
             state: SEED,
             list: [0; 800],
@@ -75,25 +75,25 @@ impl Calls {
         }
     }
 
-    fn pick(&mut self, n: u32) -> u32 {
+    pub fn pick(&mut self, n: u32) -> u32 {
         self.state = self.state * 48_271 % 2_147_483_647;
         (self.state % u64::from(n)) as u32
     }
 
-    fn of(&mut self, edges: &Edges) -> u32 {
+    pub fn of(&mut self, edges: &Edges) -> u32 {
         edges[self.pick(10) as usize]
     }
 
     /// One choice in `n` goes to the edges; the condition is always picked first.
-    fn rarely(&mut self, n: u32) -> bool {
+    pub fn rarely(&mut self, n: u32) -> bool {
         self.pick(n) == 0
     }
 
-    fn line(&mut self, line: std::fmt::Arguments) {
+    pub fn line(&mut self, line: std::fmt::Arguments) {
         writeln!(self.lines, "{line}").expect("a string takes every line");
     }
 
-    fn answer(&mut self, name: &str, outcome: Outcome) {
+    pub fn answer(&mut self, name: &str, outcome: Outcome) {
         self.line(format_args!("{name} {}", shown(outcome)));
     }
 
@@ -331,6 +331,18 @@ impl Calls {
         self.slot_of(10, 2600, 40, "other");
         self.record = running;
     }
+
+    /// All of a round but its cycle, run and TRD.
+    pub fn turn(&mut self, round: u32) {
+        self.round();
+        if round % 4 == 1 {
+            self.accept();
+        }
+        if round % 16 == 15 {
+            let cut = self.write();
+            self.read(cut);
+        }
+    }
 }
 
 /// Frame and ports are 0 on refusal.
@@ -341,17 +353,18 @@ fn read_shown(outcome: Result<(u32, u32, usize), Refusal>) -> (u32, u32, String)
     }
 }
 
+/// Whether the round also has a cycle, a run and a TRD.
+pub fn has_cycle(round: u32) -> bool {
+    round % 8 == 2
+}
+
 /// The lines of the whole sequence.
 pub fn lines() -> String {
     let mut calls = Calls::new();
     for round in 0..ROUNDS {
-        calls.round();
-        if round % 4 == 1 {
-            calls.accept();
-        }
-        if round % 16 == 15 {
-            let cut = calls.write();
-            calls.read(cut);
+        calls.turn(round);
+        if has_cycle(round) {
+            calls.cycle_run_and_trd();
         }
     }
     calls.lines
@@ -370,7 +383,7 @@ mod tests {
         assert_eq!(digest::<u8>(&[]), 7);
         assert_eq!(digest(&[0u8]), 7 * 257 + 1);
         assert_eq!(digest(&[65_535u16, 1]), ((7 * 257 + 65_536) * 257 + 2) % 1_000_003);
-        assert_eq!(lines().lines().count(), 12_000 + 2 * 750 + 2 * 3_000);
+        assert_eq!(lines().lines().count(), 12_000 + 2 * 750 + 2 * 3_000 + 3 * 1_500);
     }
 
     /// A sequence that never meets an answer would compare nothing about it. Not met are some of
@@ -379,7 +392,8 @@ mod tests {
     fn nearly_every_answer_is_met() {
         let wanted = "margin 0 1 15 16 25;room 0 1 16 25;fit 0 1 17 18;cells 0 23;\
              check 1 2 3 4 7 8 10;row 0 1 2 7 22;start 0 1 2 12;offer 0 12 13 14;\
-             slot 0 7 12 28;write 0 1 2 3 4 21;read 0 20 21;accept 0 8 9 10;other 0 1 2 7 11 28";
+             slot 0 7 12 28;write 0 1 2 3 4 21;read 0 20 21;accept 0 8 9 10;other 0 1 2 7 11 28;\
+             cycle 0 21 30 31 34;run 0 21 30 31 34;trd 0 32";
         let lines = lines();
         let met: BTreeSet<_> = lines
             .lines()

@@ -5,20 +5,26 @@ mod answer;
 mod builder;
 mod calls;
 mod corpus;
+mod cycle_calls;
+mod cycles;
 mod damage;
 mod delays;
 mod evaluation;
 mod flows;
 mod forwarding;
 mod judge;
+#[cfg(test)]
+mod networks;
 mod planner;
 mod plans;
 mod random;
 mod runner;
+mod runs;
 mod shrink;
 mod table;
 mod text;
 mod traffic;
+mod trd;
 
 use runner::Program;
 use std::io::{Read, Write};
