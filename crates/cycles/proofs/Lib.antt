@@ -5,5 +5,6 @@ pub mod Turns
 pub mod CycleOver
 pub mod ResponseLaws
 pub mod Judged
+pub mod Named
 pub mod Outcomes
 pub mod Equation

@@ -1,6 +1,10 @@
 -- Each promise is an equation, or several, so it leaves a call one outcome.
-use mathlib.Core.Path.{_≡_, sym, _∙_}
-use Rattle.demands.specs.OneOutcome.{OneMargin, OneRoom, OneFit, OneCells, OneCheck, OneRowAnswer, OneRow, OneRead, OneWrite}
+use Prim.Native.Nat.{ℕ}
+use mathlib.Core.Path.{_≡_, sym, _∙_, ap}
+use mathlib.Core.List.{List}
+use Rattle.answers.specs.declared.Answer.{Answer}
+use Rattle.cycles.specs.Promises.{afterCall}
+use Rattle.demands.specs.OneOutcome.{OneMargin, OneRoom, OneFit, OneCells, OneCycle, OneRun, OneTrd, OneCheck, OneRowAnswer, OneRow, OneRead, OneWrite}
 
 pub one-margin : OneMargin
 one-margin κ x a b l m p q = p ∙ sym q
@@ -13,6 +17,20 @@ one-fit κ x a b l m p q = p ∙ sym q
 
 pub one-cells : OneCells
 one-cells κ x a b l m p q = p ∙ sym q
+
+-- a buffer after calls that were answered alike
+alike : {a b c : Answer} (n : ℕ) (f : ℕ → ℕ) (B : List ℕ) {X Y : List ℕ} → a ≡ c → b ≡ c → X ≡ afterCall a n f B → Y ≡ afterCall b n f B → X ≡ Y
+alike n f B p q x y = x ∙ ap (λ (e : Answer). afterCall e n f B) (p ∙ sym q) ∙ sym y
+
+pub one-cycle : OneCycle
+one-cycle κ x a b l m p q =
+    (p .answered ∙ sym (q .answered), (alike _ _ _ (p .answered) (q .answered) (p .messages-taken) (q .messages-taken), alike _ _ _ (p .answered) (q .answered) (p .loads) (q .loads)))
+
+pub one-run : OneRun
+one-run κ x a b l m p q = (p .answered ∙ sym (q .answered), alike _ _ _ (p .answered) (q .answered) (p .responses) (q .responses))
+
+pub one-trd : OneTrd
+one-trd κ x a b l m p q = p ∙ sym q
 
 pub one-check : OneCheck
 one-check κ x a b l m p q = p ∙ sym q

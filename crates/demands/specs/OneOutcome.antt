@@ -6,6 +6,9 @@ use Rattle.margins.proofs.margin.Reads as margin
 use Rattle.margins.proofs.room.Reads as room
 use Rattle.margins.proofs.fit.Reads as fit
 use Rattle.margins.proofs.cells.Reads as cells
+use Rattle.cycles.proofs.cycle.Reads as cycle
+use Rattle.cycles.proofs.run.Reads as run
+use Rattle.cycles.proofs.least_trd.Reads as least-trd
 use Rattle.plan_text.proofs.reading.read.Reads as read
 use Rattle.plan_text.proofs.writing.write.Reads as write
 use Rattle.tables.proofs.check.check.Reads as check
@@ -23,6 +26,20 @@ OneFit = (κ : _) (x : _) (a b : _) (l m : _) → fit.Learnt κ x a l → fit.Le
 
 abbrev pub OneCells : Type 0
 OneCells = (κ : _) (x : _) (a b : _) (l m : _) → cells.Learnt κ x a l → cells.Learnt κ x b m → a ≡ b
+
+-- of a cycle, the answer, the bytes of the messages taken and the loads
+abbrev pub OneCycle : Type 0
+OneCycle =
+    (κ : _) (x : _) (a b : _) (l m : _)
+    → cycle.Learnt κ x a l → cycle.Learnt κ x b m
+    → (a ≡ b) × ((l .1 .1 .1 .1 .0 .now ≡ m .1 .1 .1 .1 .0 .now) × (l .1 .1 .1 .1 .1 .0 .now ≡ m .1 .1 .1 .1 .1 .0 .now))
+
+-- of a run, the answer and the responses
+abbrev pub OneRun : Type 0
+OneRun = (κ : _) (x : _) (a b : _) (l m : _) → run.Learnt κ x a l → run.Learnt κ x b m → (a ≡ b) × (l .1 .1 .1 .1 .1 .0 .now ≡ m .1 .1 .1 .1 .1 .0 .now)
+
+abbrev pub OneTrd : Type 0
+OneTrd = (κ : _) (x : _) (a b : _) (l m : _) → least-trd.Learnt κ x a l → least-trd.Learnt κ x b m → a ≡ b
 
 abbrev pub OneCheck : Type 0
 OneCheck = (κ : _) (x : _) (a b : _) (l m : _) → check.Learnt κ x a l → check.Learnt κ x b m → a ≡ b
