@@ -1,6 +1,9 @@
-// Runs cases of the documents: those that are not proved of the definitions, the limits of the frame and of the links, and entries without a count. Prints a line for each: what was asked, number, comma, detail.
+// Runs cases of the documents: those that are not proved of the definitions, the limits of the frame, of the links and of the shore network, and entries
+// without a count. Prints a line for each: what was asked, number, comma, detail; or what was lent, and the number in it.
 use answers::Answer;
+use answers::MAX_CYCLE_LINKS;
 use answers::MAX_FRAME;
+use answers::MAX_MESSAGES;
 use answers::MAX_PORTS;
 use forwarding::Running;
 use libc::STDOUT_FILENO;
@@ -19,6 +22,17 @@ fn print_answer(case: &[u8], a: Answer) {
     io::write_all(STDOUT_FILENO, b",");
     print_detail(a.detail);
     io::write_all(STDOUT_FILENO, b"\n");
+}
+
+fn print_number(what: &[u8], n: u16) {
+    io::write_all(STDOUT_FILENO, what);
+    io::write_all(STDOUT_FILENO, b": ");
+    io::print_decimal(STDOUT_FILENO, n as u64);
+    io::write_all(STDOUT_FILENO, b"\n");
+}
+
+fn print_byte(what: &[u8], byte: u8) {
+    print_number(what, byte as u16);
 }
 
 fn cells_of_messages() {
@@ -127,6 +141,79 @@ fn slots_at_their_limits() {
     last_slot(b"slot 2047 of 32 rows with 255 counts", &mut most);
 }
 
+// 64 messages over all of 32 links: 63 of them fill 64,512 slots of the largest window, and the last would make 65,536.
+fn largest_cycle() {
+    let windows = [65535u16; MAX_CYCLE_LINKS];
+    let sizes = [1024u16; MAX_MESSAGES];
+    let paths = [4294967295u32; MAX_MESSAGES];
+    let ready = [1u8; MAX_MESSAGES];
+    let mut taken = [0u8; MAX_MESSAGES];
+    let mut loads = [0u16; MAX_CYCLE_LINKS];
+    print_answer(
+        b"cycle of 64 messages over 32 links",
+        cycles::cycle(&windows, &sizes, &paths, &ready, &mut taken, &mut loads),
+    );
+    print_byte(b"message 62 is taken", taken[62]);
+    print_byte(b"message 63 is taken", taken[63]);
+    print_number(b"load of link 31", loads[31]);
+}
+
+fn cycles_past_the_limits() {
+    let windows = [65535u16; 33];
+    let sizes = [1u16; 65];
+    let paths = [1u32; 65];
+    let ready = [1u8; 65];
+    let mut taken = [0u8; 65];
+    let mut loads = [0u16; 33];
+    print_answer(
+        b"cycle of 65 messages",
+        cycles::cycle(
+            &windows[..1],
+            &sizes,
+            &paths,
+            &ready,
+            &mut taken,
+            &mut loads,
+        ),
+    );
+    print_answer(
+        b"cycle over 33 links",
+        cycles::cycle(
+            &windows,
+            &sizes[..1],
+            &paths[..1],
+            &ready[..1],
+            &mut taken,
+            &mut loads,
+        ),
+    );
+}
+
+// The longest run: message 62 is released in its last cycle, and message 63 in the one after it.
+fn longest_run(case: &[u8], cycles: usize) {
+    let windows = [65535u16; MAX_CYCLE_LINKS];
+    let sizes = [65535u16; MAX_MESSAGES];
+    let paths = [4294967295u32; MAX_MESSAGES];
+    let mut releases = [0u16; MAX_MESSAGES];
+    releases[62] = 1023;
+    releases[63] = 1024;
+    let mut responses = [0u16; MAX_MESSAGES];
+    print_answer(
+        case,
+        cycles::run(&windows, &sizes, &paths, &releases, cycles, &mut responses),
+    );
+    print_number(b"response of message 0", responses[0]);
+    print_number(b"response of message 61", responses[61]);
+    print_number(b"response of message 62", responses[62]);
+    print_number(b"response of message 63", responses[63]);
+}
+
+fn runs_at_their_limits() {
+    longest_run(b"run of 1024 cycles", 1024);
+    longest_run(b"run of 1025 cycles", 1025);
+    longest_run(b"run of 61 cycles", 61);
+}
+
 fn main() {
     cells_of_messages();
     frames_at_their_limits();
@@ -135,4 +222,7 @@ fn main() {
     offers_at_the_limit();
     entries_without_a_count();
     slots_at_their_limits();
+    largest_cycle();
+    cycles_past_the_limits();
+    runs_at_their_limits();
 }

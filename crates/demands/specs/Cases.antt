@@ -1,19 +1,23 @@
--- The starred cases of document 01, and the cases of the frame's limit, of links that take longer, of the cells of a message and of entries without a count, in one table.
+-- The starred cases of document 01, and the cases of the frame's limit, of links that take longer, of the cells of a message, of entries without a count and of the shore network, in one table.
 use Prim.Native.Nat.{ℕ, _*_}
 use mathlib.Core.Path.{_≡_}
 use mathlib.Core.List.{List, [], _∷_}
 use lib.IntN.{pos, negsuc}
 use lib.ListN.{replicate}
 use Rattle.answers.specs.declared.Answer.{Answer}
-use Rattle.answers.specs.Numbers.{FRAME-OUT-OF-RANGE, INPUT-OVERLOADED, OUTPUT-OVERLOADED, ENTRY-NOT-OF-ROW, INPUT-TWICE-IN-SLOT, COUNT-WRONG, LINKS-OUT-OF-RANGE, DEADLINE-OUT-OF-RANGE, PERIOD-OUT-OF-RANGE, PERIOD-DOES-NOT-FIT, DELAY-OUT-OF-RANGE, POSITION-PAST-FRAME, ENTRY-ABOVE-COUNTS}
+use Rattle.answers.specs.Numbers.{FRAME-OUT-OF-RANGE, INPUT-OVERLOADED, OUTPUT-OVERLOADED, ENTRY-NOT-OF-ROW, INPUT-TWICE-IN-SLOT, COUNT-WRONG, LINKS-OUT-OF-RANGE, DEADLINE-OUT-OF-RANGE, PERIOD-OUT-OF-RANGE, PERIOD-DOES-NOT-FIT, DELAY-OUT-OF-RANGE, POSITION-PAST-FRAME, ENTRY-ABOVE-COUNTS, BUFFER-TOO-SMALL, MESSAGE-MISSHAPEN, MESSAGE-ABOVE-WINDOW, TRD-ASKED-OUT-OF-RANGE, CYCLES-MISSIZED}
 use Rattle.answers.specs.Answers.{answer, refusal, doneWith}
 use Rattle.margins.specs.Margins.{marginAnswer, roomAnswer, fitAnswer, cellsAnswer}
+use Rattle.cycles.specs.Cycle.{Network, network}
+use Rattle.cycles.specs.Run.{STILL-WAITING, RELEASED-PAST-RUN}
+use Rattle.cycles.specs.Trd.{trdAnswer}
+use Rattle.cycles.specs.Promises.{Cycled, RunOver}
 use Rattle.tables.specs.Check.{checkAnswer}
 use Rattle.builder.specs.Build.{buildAnswer}
 use Rattle.forwarding.specs.Forwarding.{slotAnswer}
 use Rattle.forwarding.specs.Histories.{runningAt}
 
--- a call and the answer that the documents give for it
+-- a call and the answer that the documents give for it; of a cycle and of a run also the lent buffers, before and after
 pub data Case : Type 0 where
   check : ℕ → ℕ → List ℕ → List ℕ → Answer → Case
   build : ℕ → ℕ → List ℕ → Answer → Case
@@ -22,6 +26,9 @@ pub data Case : Type 0 where
   room : ℕ → ℕ → ℕ → Answer → Case
   cells : ℕ → Answer → Case
   slot : ℕ → ℕ → ℕ → List ℕ → List ℕ → Answer → Case
+  cycle : Network → List ℕ → List ℕ → List ℕ → Answer → List ℕ → List ℕ → Case
+  run : Network → List ℕ → ℕ → List ℕ → Answer → List ℕ → Case
+  trd : ℕ → ℕ → ℕ → ℕ → ℕ → Answer → Case
 
 -- what a case claims: the call is answered so (a build is lent the N·M bytes of its table, a slot a sent buffer of N)
 abbrev pub Claim : Case → Type 0
@@ -32,6 +39,9 @@ Claim (margin M D H a) = marginAnswer M D H ≡ a
 Claim (room M d H a) = roomAnswer M d H ≡ a
 Claim (cells bits a) = cellsAnswer bits ≡ a
 Claim (slot M N p T W a) = slotAnswer (runningAt M N p) T W N ≡ a
+Claim (cycle w ready B X a B' X') = Cycled w ready B X a B' X'
+Claim (run w R cycles X a X') = RunOver w R cycles X a X'
+Claim (trd depth nodes sig tm sld a) = trdAnswer depth nodes sig tm sld ≡ a
 
 -- every case of a list holds
 abbrev pub AllHold : List Case → Type 0
@@ -49,6 +59,10 @@ otherRows = 0 ∷ 0 ∷ 0 ∷ 2 ∷ 2 ∷ 0 ∷ 0 ∷ 0 ∷ 0 ∷ 0 ∷ 0 ∷ 0 
 -- frame 2, ports 3: the entries are 1, 9 and 200 at position 0, and 2, 3 and 0 at position 1
 abbrev pub strangeTable : List ℕ
 strangeTable = 1 ∷ 2 ∷ 9 ∷ 3 ∷ 200 ∷ 0 ∷ []
+
+-- two links with windows of 8 and 5 slots; message 0 goes over both, 1 and 2 over link 0, 3 and 4 over link 1
+abbrev pub shore : Network
+shore = network (8 ∷ 5 ∷ []) (5 ∷ 4 ∷ 3 ∷ 1 ∷ 5 ∷ []) (3 ∷ 1 ∷ 1 ∷ 2 ∷ 2 ∷ [])
 
 abbrev pub cases : List Case
 cases =
@@ -119,6 +133,53 @@ cases =
     ∷ slot 2 3 1 strangeTable (replicate 3 0) (doneWith (pos 0))
     -- 28 comes after 11
     ∷ slot 2 3 2 strangeTable [] (refusal POSITION-PAST-FRAME)
+    -- a cycle with all but the last ready: 0 takes 5 slots of both links, 1 would make 9 of link 0's 8 and is held, 2 makes 8, 3 would make 6 of link 1's 5;
+    -- what lies past the messages and the links stays
+    ∷ cycle shore (1 ∷ 1 ∷ 255 ∷ 1 ∷ 0 ∷ []) (replicate 6 9) (replicate 3 7) (doneWith (pos 0)) (1 ∷ 0 ∷ 1 ∷ 0 ∷ 0 ∷ 9 ∷ []) (8 ∷ 5 ∷ 7 ∷ [])
+    -- without message 0 there is room for 1 and 2 together and for 3, and 4 would make 6 of link 1's 5
+    ∷ cycle shore (0 ∷ 1 ∷ 1 ∷ 1 ∷ 1 ∷ []) (replicate 5 9) (replicate 2 7) (doneWith (pos 0)) (0 ∷ 1 ∷ 1 ∷ 1 ∷ 0 ∷ []) (7 ∷ 1 ∷ [])
+    -- no links and no messages
+    ∷ cycle (network [] [] []) [] [] [] (doneWith (pos 0)) [] []
+    -- 30 for a link that is not there, for an empty set and for size 0, the lowest message named; and before 31, though that message is higher
+    ∷ cycle (network (8 ∷ []) (1 ∷ 1 ∷ 0 ∷ []) (1 ∷ 2 ∷ 1 ∷ [])) (1 ∷ 1 ∷ 1 ∷ []) (replicate 3 9) (7 ∷ []) (answer MESSAGE-MISSHAPEN (pos 1)) (replicate 3 9) (7 ∷ [])
+    ∷ cycle (network (8 ∷ []) (1 ∷ 1 ∷ 0 ∷ []) (1 ∷ 1 ∷ 1 ∷ [])) (1 ∷ 1 ∷ 1 ∷ []) (replicate 3 9) (7 ∷ []) (answer MESSAGE-MISSHAPEN (pos 2)) (replicate 3 9) (7 ∷ [])
+    ∷ cycle (network (8 ∷ []) (9 ∷ 1 ∷ []) (1 ∷ 0 ∷ [])) (1 ∷ 1 ∷ []) (replicate 2 9) (7 ∷ []) (answer MESSAGE-MISSHAPEN (pos 1)) (replicate 2 9) (7 ∷ [])
+    -- 31: 8 slots fill the window, 9 do not fit; a message that is not ready is refused too
+    ∷ cycle (network (8 ∷ []) (8 ∷ []) (1 ∷ [])) (1 ∷ []) (9 ∷ []) (7 ∷ []) (doneWith (pos 0)) (1 ∷ []) (8 ∷ [])
+    ∷ cycle (network (8 ∷ []) (8 ∷ 9 ∷ []) (1 ∷ 1 ∷ [])) (1 ∷ 0 ∷ []) (replicate 2 9) (7 ∷ []) (answer MESSAGE-ABOVE-WINDOW (pos 1)) (replicate 2 9) (7 ∷ [])
+    -- lists of other lengths: 34, before 30; a buffer that is too short: 21, after 31
+    ∷ cycle (network (8 ∷ []) (0 ∷ []) (1 ∷ [])) (1 ∷ 1 ∷ []) (9 ∷ []) (7 ∷ []) (refusal CYCLES-MISSIZED) (9 ∷ []) (7 ∷ [])
+    ∷ cycle (network (8 ∷ []) (0 ∷ []) []) (1 ∷ []) (9 ∷ []) (7 ∷ []) (refusal CYCLES-MISSIZED) (9 ∷ []) (7 ∷ [])
+    ∷ cycle (network (8 ∷ []) (9 ∷ []) (1 ∷ [])) (1 ∷ []) [] (7 ∷ []) (answer MESSAGE-ABOVE-WINDOW (pos 0)) [] (7 ∷ [])
+    ∷ cycle (network (8 ∷ []) (8 ∷ []) (1 ∷ [])) (1 ∷ []) [] (7 ∷ []) (refusal BUFFER-TOO-SMALL) [] (7 ∷ [])
+    ∷ cycle (network (8 ∷ []) (8 ∷ []) (1 ∷ [])) (1 ∷ []) (9 ∷ []) [] (refusal BUFFER-TOO-SMALL) (9 ∷ []) []
+    -- a run: 0, 1 and 2 are released in cycle 0, 3 and 4 in cycle 1. Cycle 0 takes 0 and 2 as above, cycle 1 takes 1 and 3, cycle 2 takes 4
+    ∷ run shore (0 ∷ 0 ∷ 0 ∷ 1 ∷ 1 ∷ []) 3 (replicate 6 7) (doneWith (pos 0)) (1 ∷ 2 ∷ 1 ∷ 1 ∷ 2 ∷ 7 ∷ [])
+    -- the same, ended after two cycles and after one
+    ∷ run shore (0 ∷ 0 ∷ 0 ∷ 1 ∷ 1 ∷ []) 2 (replicate 5 7) (doneWith (pos 0)) (1 ∷ 2 ∷ 1 ∷ 1 ∷ STILL-WAITING ∷ [])
+    ∷ run shore (0 ∷ 0 ∷ 0 ∷ 1 ∷ 1 ∷ []) 1 (replicate 5 7) (doneWith (pos 0)) (1 ∷ STILL-WAITING ∷ 1 ∷ RELEASED-PAST-RUN ∷ RELEASED-PAST-RUN ∷ [])
+    -- cycles outside 1 to 1,024 and a release list of another length: 34, before 30
+    ∷ run (network (8 ∷ []) (0 ∷ []) (1 ∷ [])) (0 ∷ []) 0 (7 ∷ []) (refusal CYCLES-MISSIZED) (7 ∷ [])
+    ∷ run (network (8 ∷ []) (0 ∷ []) (1 ∷ [])) (0 ∷ []) 1025 (7 ∷ []) (refusal CYCLES-MISSIZED) (7 ∷ [])
+    ∷ run (network (8 ∷ []) (0 ∷ []) (1 ∷ [])) [] 1 (7 ∷ []) (refusal CYCLES-MISSIZED) (7 ∷ [])
+    ∷ run (network (8 ∷ []) (0 ∷ []) (1 ∷ [])) (0 ∷ []) 1024 (7 ∷ []) (answer MESSAGE-MISSHAPEN (pos 0)) (7 ∷ [])
+    ∷ run (network (8 ∷ []) (8 ∷ []) (1 ∷ [])) (0 ∷ []) 1 [] (refusal BUFFER-TOO-SMALL) []
+    -- document 004's network has six nodes, SIG 2, TM 5 and SLD 17; its TRD of 200 is enough down to depth 5
+    ∷ trd 1 6 2 5 17 (doneWith (pos 32))
+    ∷ trd 2 6 2 5 17 (doneWith (pos 73))
+    ∷ trd 3 6 2 5 17 (doneWith (pos 114))
+    ∷ trd 5 6 2 5 17 (doneWith (pos 196))
+    ∷ trd 6 6 2 5 17 (doneWith (pos 237))
+    -- the limits
+    ∷ trd 1 1 0 0 0 (doneWith (pos 1))
+    ∷ trd 64 64 10000 10000 10000 (doneWith (pos 3180001))
+    ∷ trd 0 6 2 5 17 (refusal TRD-ASKED-OUT-OF-RANGE)
+    ∷ trd 65 6 2 5 17 (refusal TRD-ASKED-OUT-OF-RANGE)
+    ∷ trd 3 0 2 5 17 (refusal TRD-ASKED-OUT-OF-RANGE)
+    ∷ trd 3 65 2 5 17 (refusal TRD-ASKED-OUT-OF-RANGE)
+    ∷ trd 3 6 10001 5 17 (refusal TRD-ASKED-OUT-OF-RANGE)
+    ∷ trd 3 6 2 10001 17 (refusal TRD-ASKED-OUT-OF-RANGE)
+    ∷ trd 3 6 2 5 10001 (refusal TRD-ASKED-OUT-OF-RANGE)
     ∷ []
 
 -- "one proof over that table shows them of the definitions"
