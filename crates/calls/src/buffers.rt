@@ -32,6 +32,16 @@ pub fn words_within(words: &[u16], n: usize) -> usize
     n
 }
 
+// How many of the first n sets there are, so that they can be lent.
+pub fn sets_within(sets: &[u32], n: usize) -> usize
+    ensures { λ r. ⌜ Counts r (now (sets .entry)) ⌝ }
+{
+    if sets.len() < n {
+        return sets.len();
+    }
+    n
+}
+
 // A number as a byte.
 fn byte(n: usize) -> u8 {
     (n % 256) as u8
@@ -56,5 +66,17 @@ pub fn word(n: usize) -> u16 {
 pub fn store_word(words: &mut [u16], at: usize, n: usize) {
     if at < words.len() {
         words[at] = word(n);
+    }
+}
+
+// A number as a set of links.
+fn set(n: usize) -> u32 {
+    (n % 4294967296) as u32
+}
+
+// Stores a set.
+pub fn store_set(sets: &mut [u32], at: usize, n: usize) {
+    if at < sets.len() {
+        sets[at] = set(n);
     }
 }

@@ -1,9 +1,14 @@
 // Makes calls from a fixed sequence of numbers and prints a line for each, so that another program that makes the same calls can be compared.
 mod buffers;
+mod cycle_calls;
 mod digest;
+mod filling;
 mod likely_calls;
 mod line;
+mod link_sets;
 mod margin_calls;
+mod networks;
+mod run_calls;
 mod sequence;
 mod switch_calls;
 mod table_calls;
@@ -88,6 +93,13 @@ fn checked_and_served(
     switch_calls::slot_elsewhere(after, table, waiting, sent)
 }
 
+// Takes a cycle, runs cycles of another network, and asks for a TRD.
+fn cycled_and_run(state: u64) -> u64 {
+    let cycled = cycle_calls::cycle(state);
+    let run = run_calls::run(cycled);
+    margin_calls::trd(run)
+}
+
 // Makes the calls that some rounds add to their own.
 fn further_calls(
     round: usize,
@@ -103,6 +115,9 @@ fn further_calls(
     }
     if round % 4 == 1 {
         return checked_and_served(state, list, table, waiting, sent);
+    }
+    if round % 8 == 2 {
+        return cycled_and_run(state);
     }
     state
 }

@@ -1,55 +1,28 @@
 // The calls on plain numbers and on lists of delays, each at the edges of its ranges.
-ghost use Prim.Native.Nat.{_<_};
-use crate::buffers::store_word;
 use crate::buffers::words_within;
+use crate::filling::damage_at_edges;
+use crate::filling::fill_words;
 use crate::line::write_answer;
 use crate::sequence::BITS;
 use crate::sequence::CELLS;
 use crate::sequence::DEADLINES;
 use crate::sequence::DELAYS;
+use crate::sequence::DEPTHS;
 use crate::sequence::FRAMES;
 use crate::sequence::LINKS;
 use crate::sequence::PERIODS;
+use crate::sequence::TIMES;
 use crate::sequence::edge;
-use crate::sequence::one_to;
-use crate::sequence::pick;
 use answers::MAX_DELAY;
 
 // The longest list of delays that is lent.
 const DELAYS_LENT: usize = 300;
 
-// Fills delays that are in range, from the first link on.
-fn fill_delays(state: u64, delays: &mut [u16], links: usize) -> u64 {
-    let mut s = state;
-    let mut link = 0;
-    while link < links {
-        let delay = one_to(s, MAX_DELAY);
-        store_word(delays, link, delay.value);
-        s = delay.state;
-        link += 1;
-    }
-    s
-}
-
-// One time in three puts a delay at the edges into one of the first places.
-fn damage_delays(state: u64, delays: &mut [u16], places: usize) -> u64
-    requires { ⌜ 0 < places ⌝ }
-{
-    let damage = pick(state, 3);
-    if damage.value != 0 {
-        return damage.state;
-    }
-    let place = pick(damage.state, places);
-    let delay = edge(place.state, &DELAYS);
-    store_word(delays, place.value, delay.value);
-    delay.state
-}
-
-// Fills delays and damages them, near the front and anywhere.
+// Fills delays that are in range, and damages them near the front and anywhere.
 fn some_delays(state: u64, delays: &mut [u16], links: usize) -> u64 {
-    let filled = fill_delays(state, delays, links);
-    let damaged = damage_delays(filled, delays, 12);
-    damage_delays(damaged, delays, DELAYS_LENT)
+    let filled = fill_words(state, delays, links, 1, MAX_DELAY);
+    let damaged = damage_at_edges(filled, delays, 3, 12, &DELAYS);
+    damage_at_edges(damaged, delays, 3, DELAYS_LENT, &DELAYS)
 }
 
 // Asks for a margin over the first links of a list.
@@ -95,4 +68,18 @@ pub fn cells(state: u64) -> u64 {
     let bits = edge(state, &BITS);
     write_answer(b"cells", margins::cells(bits.value));
     bits.state
+}
+
+// Asks for a least TRD.
+pub fn trd(state: u64) -> u64 {
+    let depth = edge(state, &DEPTHS);
+    let nodes = edge(depth.state, &DEPTHS);
+    let sig = edge(nodes.state, &TIMES);
+    let tm = edge(sig.state, &TIMES);
+    let sld = edge(tm.state, &TIMES);
+    write_answer(
+        b"trd",
+        cycles::least_trd(depth.value, nodes.value, sig.value, tm.value, sld.value),
+    );
+    sld.state
 }

@@ -1,6 +1,11 @@
 // The fixed sequence of numbers, and the choices made from it. Every choice takes the state and hands back the next one.
+use answers::MAX_CYCLE_LINKS;
+use answers::MAX_CYCLES;
 use answers::MAX_DELAY;
+use answers::MAX_DEPTH;
 use answers::MAX_FRAME;
+use answers::MAX_MESSAGES;
+use answers::MAX_TIME;
 use margins::CARRIED_BITS;
 ghost use Prim.Native.Nat.{_<_, _≤_};
 
@@ -80,6 +85,74 @@ pub const COUNTS: [usize; 10] = [0, 1, 2, 3, 5, 10, 100, 254, 255, 256];
 
 pub const OFFERS: [usize; 10] = [0, 1, 2, 5, 100, 3999, 4000, 4001, 40000, 65535];
 
+pub const CYCLE_LINKS: [usize; 10] = [
+    0,
+    1,
+    2,
+    3,
+    4,
+    8,
+    MAX_CYCLE_LINKS - 1,
+    MAX_CYCLE_LINKS,
+    MAX_CYCLE_LINKS + 1,
+    40,
+];
+
+pub const MESSAGES: [usize; 10] = [
+    0,
+    1,
+    2,
+    3,
+    5,
+    20,
+    MAX_MESSAGES - 1,
+    MAX_MESSAGES,
+    MAX_MESSAGES + 1,
+    70,
+];
+
+pub const SIZES: [usize; 10] = [0, 1, 9, 10, 11, 40, 41, 65534, 65535, 100];
+
+pub const CYCLES: [usize; 10] = [
+    0,
+    1,
+    2,
+    5,
+    64,
+    100,
+    MAX_CYCLES - 1,
+    MAX_CYCLES,
+    MAX_CYCLES + 1,
+    4000000000,
+];
+
+// The edges of depths are those of nodes too.
+pub const DEPTHS: [usize; 10] = [
+    0,
+    1,
+    2,
+    3,
+    5,
+    MAX_DEPTH - 1,
+    MAX_DEPTH,
+    MAX_DEPTH + 1,
+    100,
+    4000000000,
+];
+
+pub const TIMES: [usize; 10] = [
+    0,
+    1,
+    2,
+    5,
+    17,
+    100,
+    MAX_TIME - 1,
+    MAX_TIME,
+    MAX_TIME + 1,
+    4000000000,
+];
+
 // What a choice hands back: the state after it, and what was chosen.
 pub struct Picked {
     pub state: u64,
@@ -91,6 +164,14 @@ fn next(state: u64) -> u64 {
     state % 2147483647 * 48271 % 2147483647
 }
 
+// The remainder of a number, which is below n.
+pub fn below(x: usize, n: usize) -> usize
+    requires { ⌜ 0 < n ⌝ }
+    ensures { λ r. ⌜ r < n ⌝ }
+{
+    x % n
+}
+
 // One of n numbers, from 0 on.
 pub fn pick(state: u64, n: usize) -> Picked
     requires { ⌜ 0 < n ⌝ }
@@ -99,7 +180,7 @@ pub fn pick(state: u64, n: usize) -> Picked
     let after = next(state);
     Picked {
         state: after,
-        value: after as usize % n,
+        value: below(after as usize, n),
     }
 }
 
@@ -125,11 +206,11 @@ pub fn edge(state: u64, edges: &[usize; 10]) -> Picked {
     }
 }
 
-// One time in four a number at the edges, else one of n numbers from 1 on.
-fn edge_or_one_to(state: u64, edges: &[usize; 10], n: usize) -> Picked
-    requires { ⌜ 0 < n ⌝ }
+// One time in so many a number at the edges, else one of n numbers from 1 on.
+pub fn edge_or_one_to(state: u64, times: usize, edges: &[usize; 10], n: usize) -> Picked
+    requires { ⌜ (0 < times) × (0 < n) ⌝ }
 {
-    let p = pick(state, 4);
+    let p = pick(state, times);
     if p.value == 0 {
         return edge(p.state, edges);
     }
@@ -138,26 +219,33 @@ fn edge_or_one_to(state: u64, edges: &[usize; 10], n: usize) -> Picked
 
 // A frame, mostly a small one that is in range.
 pub fn frame(state: u64) -> Picked {
-    edge_or_one_to(state, &FRAMES, 8)
+    edge_or_one_to(state, 4, &FRAMES, 8)
 }
 
 // A number of ports, mostly a small one that is in range.
 pub fn ports(state: u64) -> Picked {
-    edge_or_one_to(state, &PORTS, 4)
+    edge_or_one_to(state, 4, &PORTS, 4)
+}
+
+// One time in so many one of n numbers, from 0 on, else a number that is given.
+pub fn pick_or(state: u64, times: usize, n: usize, given: usize) -> Picked
+    requires { ⌜ (0 < times) × (0 < n) ⌝ }
+{
+    let p = pick(state, times);
+    if p.value == 0 {
+        return pick(p.state, n);
+    }
+    Picked {
+        state: p.state,
+        value: given,
+    }
 }
 
 // One time in so many some of a buffer's elements, else all of them.
 pub fn some_or_all(state: u64, times: usize, all: usize) -> Picked
     requires { ⌜ (0 < times) × (all < 10000) ⌝ }
 {
-    let p = pick(state, times);
-    if p.value == 0 {
-        return pick(p.state, all + 1);
-    }
-    Picked {
-        state: p.state,
-        value: all,
-    }
+    pick_or(state, times, all + 1, all)
 }
 
 // How many waiting counts are lent: one time in so many a number at the edges, else 10.

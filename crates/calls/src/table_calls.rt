@@ -7,6 +7,7 @@ use crate::buffers::store_word;
 use crate::buffers::words_within;
 use crate::digest::of_bytes;
 use crate::digest::of_words;
+use crate::filling::damage_anyhow;
 use crate::line::write_digest;
 use crate::line::write_two;
 use crate::sequence::frame;
@@ -51,25 +52,13 @@ fn fill_flows(state: u64, list: &mut [u16], flows: usize, ports: usize, frame: u
     s
 }
 
-// One time in eight puts any number anywhere among the flows.
-fn damage_list(state: u64, list: &mut [u16]) -> u64 {
-    let damage = pick(state, 8);
-    if damage.value != 0 {
-        return damage.state;
-    }
-    let place = pick(damage.state, LIST_SHOWN);
-    let number = pick(place.state, 70000);
-    store_word(list, place.value, number.value);
-    number.state
-}
-
 // Fills the list with flows that are mostly in range.
 pub fn fill_list(state: u64, list: &mut [u16]) -> u64 {
     let flows = pick(state, 9);
     let frame = one_to(flows.state, 8);
     let ports = one_to(frame.state, 4);
     let filled = fill_flows(ports.state, list, flows.value, ports.value, frame.value);
-    let after = damage_list(filled, list);
+    let after = damage_anyhow(filled, list, 8, LIST_SHOWN);
     write_digest(b"list", list_digest(list));
     after
 }
