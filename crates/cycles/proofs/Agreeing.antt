@@ -1,11 +1,10 @@
 -- What a cycle takes of a message, and the loads before it, follow from the windows and from the messages down to it.
-use Prim.Native.Nat.{ℕ, zero, suc, _+_, _≤_, _<_}
+use Prim.Native.Nat.{ℕ, zero, suc, _+_, _<_}
 use mathlib.Core.Path.{_≡_, refl}
 use mathlib.Core.Bool.{Bool, not, cond, _&&_}
-use mathlib.Core.List.{List}
 use native.Mathlib.Omega.{arith}
 use Rattle.cycles.specs.Cycle.{Network, sizeOf, pathOf, noRoom, takes, share, loadAfter, taken}
-use Rattle.cycles.specs.HouseRule.{SameDownTo, LowerDoNotCount}
+use Rattle.cycles.specs.HouseRule.{LowerDoNotCount}
 
 takes-same : (w w' : Network) (ready ready' : ℕ → Bool) (load load' : ℕ → ℕ) (i : ℕ)
     → w .windows ≡ w' .windows → sizeOf w i ≡ sizeOf w' i → pathOf w i ≡ pathOf w' i → ready i ≡ ready' i → ((l : ℕ) → load l ≡ load' l)

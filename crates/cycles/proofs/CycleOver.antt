@@ -1,7 +1,7 @@
 -- One cycle of a run: what its bytes and its responses say after it. X is the responses in the lent list, X₀ what it held before the run.
 use Prim.Native.Nat.{ℕ, suc, _+_, _≤_, _<_}
-use mathlib.Core.Path.{_≡_, refl, sym, _∙_, ap, subst}
-use mathlib.Core.Bool.{Bool, true, false, not, cond}
+use mathlib.Core.Path.{_≡_, refl, sym, _∙_, ap}
+use mathlib.Core.Bool.{Bool, true, false, not}
 use mathlib.Core.List.{List}
 use native.Mathlib.Omega.{arith}
 use native.Mathlib.Numerals.{add-one}
@@ -14,7 +14,7 @@ use Rattle.answers.specs.Buffers.{written}
 use Rattle.answers.proofs.Buffers.{written-at, written-agree, written-again}
 use Rattle.answers.proofs.Ranges.{both-true}
 use Rattle.cycles.specs.Cycle.{Network, messages, taken, marked}
-use Rattle.cycles.specs.Run.{STILL-WAITING, releaseOf, markFor, readyIn, takenIn, responseBy}
+use Rattle.cycles.specs.Run.{STILL-WAITING, releaseOf, markFor, readyIn, responseBy}
 use Rattle.cycles.specs.Steps.{stillReady, readyNow, AllInTime, responseAfter, afterCycle}
 use Rattle.cycles.proofs.Agreeing.{ready-agrees}
 use Rattle.cycles.proofs.Loads.{was-ready}

@@ -1,8 +1,7 @@
 -- Equation 1: how large its right side can be, and that the TRD answered is the least whole number above it.
-use Prim.Native.Nat.{ℕ, _+_, _-_, _*_, _≤_, _<_}
-use mathlib.Core.Path.{_≡_, refl, sym, _∙_, ap}
-use mathlib.Core.Bool.{Bool, false, _||_}
-use mathlib.Core.List.{[]}
+use Prim.Native.Nat.{ℕ, _+_, _-_, _*_, _≤_}
+use mathlib.Core.Path.{_≡_, sym, _∙_, ap}
+use mathlib.Core.Bool.{false, _||_}
 use native.Mathlib.Omega.{arith}
 use native.Mathlib.Nat.{mul-le-mul}
 use lib.Signed.{mag}
@@ -13,7 +12,7 @@ use Rattle.answers.specs.Limits.{maxDepth, maxNodes, maxTime, outside}
 use Rattle.answers.specs.Answers.{doneWith}
 use Rattle.answers.proofs.First.{NoneHolds, first-none, lacked}
 use Rattle.answers.proofs.Ranges.{inside, within-test, either-false}
-use Rattle.cycles.specs.Trd.{rightSide, trdOf, TrdAsked, trdOutOfRange, trdRules, trdAnswer, TrdGiven, TrdIsLeast}
+use Rattle.cycles.specs.Trd.{trdOf, TrdAsked, trdOutOfRange, trdRules, trdAnswer, TrdGiven, TrdIsLeast}
 
 module _ (depth nodes sig tm sld : ℕ) where
   pub in-range : trdOutOfRange depth nodes sig tm sld ≡ false → TrdAsked depth nodes sig tm sld

@@ -1,18 +1,17 @@
 -- What a call about a network answers, by what was found on the way; and what its being done tells.
 use Prim.Native.Nat.{ℕ, _≤_, _<_}
 use mathlib.Core.Path.{_≡_, refl, sym, _∙_, ap}
-use mathlib.Core.Bool.{Bool, true, false, not, cond, _||_}
-use mathlib.Core.List.{List, []}
+use mathlib.Core.Bool.{Bool, true, false, cond, _||_}
 use native.Mathlib.Omega.{arith}
 use borrow.Author.Tests.{eqb-true, ltb-false, not-false}
 use lib.ListN.{length}
 use lib.IntN.{pos}
-use lib.Dec.{eqb, ltb}
+use lib.Dec.{ltb}
 use Rattle.answers.specs.declared.Answer.{Answer}
 use Rattle.answers.specs.Numbers.{DONE, BUFFER-TOO-SMALL, MESSAGE-MISSHAPEN, MESSAGE-ABOVE-WINDOW, CYCLES-MISSIZED}
 use Rattle.answers.specs.Limits.{maxCycleLinks, maxMessages}
 use Rattle.answers.specs.Lowest.{lowest, holdsSomewhere}
-use Rattle.answers.specs.Answers.{Rule, answer, refusal, doneWith}
+use Rattle.answers.specs.Answers.{answer, refusal, doneWith}
 use Rattle.answers.proofs.First.{NoneHolds, lowest-named, lowest-passed, done-exactly}
 use Rattle.answers.proofs.Ranges.{either-false}
 use Rattle.cycles.specs.Cycle.{Network, links, messages}

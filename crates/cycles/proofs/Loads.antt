@@ -1,21 +1,19 @@
 -- The loads of a cycle: each is a sum, none is above its window, and a message is taken exactly by the house rule.
 use Prim.Native.Nat.{ℕ, zero, suc, _+_, _≤_, _<_}
 use mathlib.Core.Path.{_≡_, refl, sym, _∙_, ap, subst}
-use mathlib.Core.Bool.{Bool, true, false, not, cond, _&&_, true≢false}
+use mathlib.Core.Bool.{Bool, true, false, not, cond, _&&_}
 use mathlib.Core.List.{List}
 use native.Mathlib.Omega.{arith}
-use native.Mathlib.Nat.{zero-add}
 use borrow.Author.Tests.{ltb-true, ltb-false, le-ltb, not-true, not-false}
 use lib.ListN.{length, getD}
 use lib.Dec.{ltb}
-use Rattle.answers.specs.Lowest.{lowest, holdsSomewhere}
+use Rattle.answers.specs.Lowest.{lowest}
 use Rattle.answers.specs.Sums.{sum}
 use Rattle.answers.proofs.Lowest.{lowest-found, somewhere-false, nowhere-test}
 use Rattle.answers.proofs.Ranges.{both-true, second-false}
 use Rattle.answers.proofs.Sums.{sum-none, sum-step, sum-zero, term-below}
 use Rattle.cycles.specs.Cycle.{Network, links, windowOf, sizeOf, pathOf, inSet, onPath, tooMuch, noRoom, share, takes, loadAfter, taken}
-use Rattle.cycles.specs.Judging.{messageAboveWindow}
-use Rattle.cycles.specs.HouseRule.{takenSoFar, LoadIsSum, LoadWithinWindow, TakenExactly, TakenAhead, HeldByHigher}
+use Rattle.cycles.specs.HouseRule.{takenSoFar, LoadIsSum, LoadWithinWindow, TakenExactly, HeldByHigher}
 
 pub load-none : (w : Network) (ready : ℕ → Bool) (l : ℕ) → loadAfter w ready 0 l ≡ 0
 unfolding loadAfter

@@ -1,7 +1,7 @@
 -- One message more is looked at: what the loop over the messages adds. X is the loads in the lent list, X₀ what it held before the cycle.
 use Prim.Native.Nat.{ℕ, suc, _+_, _≤_, _<_}
 use mathlib.Core.Path.{_≡_, refl, sym, _∙_, ap}
-use mathlib.Core.Bool.{Bool, true, false, not, cond, _&&_}
+use mathlib.Core.Bool.{Bool, true, false, not, cond, _&&_, and-false}
 use mathlib.Core.List.{List}
 use native.Mathlib.Omega.{arith}
 use native.Mathlib.Numerals.{add-one}
@@ -27,11 +27,7 @@ all-fit W X size set windows loads e l u = go (inSet set l) refl
 -- a message that is held, and one that is not
 module _ (W X : List ℕ) (size set ready : ℕ) where
   pub held : noRoom W (loadIn X) size set ≡ true → takesNow W X size set ready ≡ false
-  held e = ap (λ (b : Bool). not (eqb ready 0) && not b) e ∙ last (not (eqb ready 0))
-    where
-      last : (b : Bool) → (b && false) ≡ false
-      last true = refl
-      last false = refl
+  held e = ap (λ (b : Bool). not (eqb ready 0) && not b) e ∙ and-false (not (eqb ready 0))
 
   pub goes : (ready ≡ 0 → ⊥) → noRoom W (loadIn X) size set ≡ false → takesNow W X size set ready ≡ true
   goes d e = λ k. not (ne-eqb ready 0 d k) && not (e k)

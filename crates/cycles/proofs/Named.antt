@@ -1,21 +1,21 @@
 -- Refusals 30 and 31: what is tested of a message is what is said of it, so each names the lowest such message.
-use Prim.Native.Nat.{ℕ, _+_, _-_, _≤_, _<_}
-use mathlib.Core.Path.{_≡_, refl, sym, _∙_, ap}
+use Prim.Native.Nat.{ℕ, _+_, _-_, _<_}
+use mathlib.Core.Path.{_≡_, refl, ap}
 use mathlib.Core.Logic.{_↔_}
 use mathlib.Core.Bool.{Bool, true, false, not, _||_}
-use mathlib.Core.List.{List, [], _∷_}
+use mathlib.Core.List.{[], _∷_}
 use native.Mathlib.Omega.{arith}
 use borrow.Author.Tests.{eqb-true, eq-eqb, ltb-true, le-ltb}
 use lib.ListN.{length}
 use lib.IntN.{pos}
-use lib.Dec.{eqb, ltb}
+use lib.Dec.{eqb}
 use Rattle.answers.specs.Numbers.{BUFFER-TOO-SMALL, MESSAGE-MISSHAPEN, MESSAGE-ABOVE-WINDOW, CYCLES-MISSIZED}
 use Rattle.answers.specs.Limits.{maxCycleLinks, maxMessages}
 use Rattle.answers.specs.Lowest.{lowest, IsLowest}
 use Rattle.answers.specs.Answers.{Rule, answer, refusal, doneWith, _when_, namingLowest}
-use Rattle.answers.proofs.First.{NoneHolds, named-exactly, not-named, none-named}
+use Rattle.answers.proofs.First.{named-exactly, not-named, none-named}
 use Rattle.answers.proofs.Lowest.{lowest-found, somewhere-test}
-use Rattle.cycles.specs.Cycle.{Network, links, messages, sizeOf, pathOf, inSet, tooMuch}
+use Rattle.cycles.specs.Cycle.{Network, links, messages, sizeOf, pathOf, inSet}
 use Rattle.cycles.specs.Judging.{missized, linkMissing, messageMisshapen, messageAboveWindow, networkAnswer}
 use Rattle.cycles.specs.Refusals.{Sized, Misshapen, empty-set, no-such-link, no-size, AboveWindow, NamesMisshapen, NamesAboveWindow}
 use Rattle.cycles.proofs.Loads.{no-room-on, room-on}

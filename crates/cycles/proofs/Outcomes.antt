@@ -1,14 +1,14 @@
 -- What a public function did, refused or carried out, is what it promises. In each law a is what the call answered.
 use Prim.Native.Nat.{ℕ, _≤_}
-use mathlib.Core.Path.{_≡_, refl, sym, _∙_, ap, subst}
-use mathlib.Core.Bool.{Bool, not, cond, _||_}
+use mathlib.Core.Path.{_≡_, sym, _∙_, ap}
+use mathlib.Core.Bool.{Bool, not, cond}
 use mathlib.Core.List.{List}
 use borrow.Author.Tests.{eq-eqb, ne-eqb, eqb-true, ltb-false, not-false}
 use lib.ListN.{length}
 use lib.Dec.{eqb, ltb}
 use Rattle.answers.specs.declared.Answer.{Answer}
 use Rattle.answers.specs.Numbers.{DONE}
-use Rattle.answers.specs.Limits.{maxCycleLinks, maxMessages, maxCycles, outside}
+use Rattle.answers.specs.Limits.{maxCycleLinks, maxCycles, outside}
 use Rattle.answers.specs.Sums.{one}
 use Rattle.answers.specs.Buffers.{written}
 use Rattle.answers.proofs.Ranges.{inside, either-false}

@@ -1,27 +1,26 @@
 -- What responses and marks mean, that lower priorities do not delay a message, and how long those above it can.
-use Prim.Native.Nat.{ℕ, zero, suc, _+_, _*_, _≤_, _<_}
+use Prim.Native.Nat.{ℕ, zero, suc, _+_, _≤_, _<_}
 use mathlib.Core.Path.{_≡_, refl, sym, _∙_, ap, subst}
 use mathlib.Core.Logic.{_↔_}
-use mathlib.Core.Bool.{Bool, true, false, not, cond, _&&_, _||_, true≢false}
+use mathlib.Core.Bool.{Bool, true, false, not, cond, _&&_, _||_}
 use mathlib.Core.List.{List}
 use native.Mathlib.Omega.{arith}
 use native.Mathlib.Decide.{decLt}
 use borrow.Author.Tests.{le-leb, lt-ltb, le-ltb}
-use lib.Dec.{leb, ltb}
+use lib.Dec.{leb}
 use Rattle.answers.specs.Numbers.{DONE}
 use Rattle.answers.specs.Limits.{maxCycles}
 use Rattle.answers.specs.Lowest.{lowest}
 use Rattle.answers.specs.Sums.{sum, one}
-use Rattle.answers.proofs.First.{NoneHolds, done-exactly}
 use Rattle.answers.proofs.Lowest.{somewhere-false}
 use Rattle.answers.proofs.Ranges.{either-false}
 use Rattle.answers.proofs.Sums.{sum-at-most, sum-less}
 use Rattle.cycles.specs.Cycle.{Network, messages, taken}
-use Rattle.cycles.specs.Judging.{messageAboveWindow, networkRules, networkAnswer, runAnswer}
-use Rattle.cycles.specs.Run.{STILL-WAITING, RELEASED-PAST-RUN, releaseOf, waits, takenBefore, readyIn, takenIn, markFor, cyclesThrough, responseBy, responseOf}
-use Rattle.cycles.specs.HouseRule.{SameDownTo}
+use Rattle.cycles.specs.Judging.{messageAboveWindow, networkAnswer}
+use Rattle.cycles.specs.Run.{STILL-WAITING, RELEASED-PAST-RUN, releaseOf, waits, takenBefore, readyIn, takenIn, markFor, cyclesThrough, responseOf}
 use Rattle.cycles.specs.Responses.{ResponseCounts, MarkedWaiting, MarkedPast, SameRunDownTo, LowerDoNotDelay, ResponseBounded}
 use Rattle.cycles.proofs.Agreeing.{lower-do-not-count}
+use Rattle.cycles.proofs.Judged.{none-due}
 use Rattle.cycles.proofs.Loads.{held-by-higher}
 use Rattle.cycles.proofs.Turns.{before-none, before-step, waited, none-before, not-before, some-before, which-before, response-taken, response-not}
 
@@ -157,10 +156,7 @@ module _ (w : Network) (R : List ℕ) (i : ℕ) (within : messageAboveWindow w i
 
 -- where a run is done, no message's size is above a window on its path
 within-windows : (w : Network) (other short : Bool) → networkAnswer w other short .number ≡ DONE → (i : ℕ) → i < messages w → messageAboveWindow w i ≡ false
-unfolding networkAnswer
-within-windows w other short e i u =
-    let none = done-exactly DONE (networkRules w other short) _ refl tt .0 e in
-    somewhere-false 0 (messages w) (messageAboveWindow w) (none .1 .1 .0) i (omega arith) (omega arith)
+within-windows w other short e i u = somewhere-false 0 (messages w) (messageAboveWindow w) (none-due w other short e .1 .1 .0) i (omega arith) (omega arith)
 
 pub response-bounded : ResponseBounded
 response-bounded w R cycles room i e u l =

@@ -1,18 +1,18 @@
 -- When a run takes a message: not before its release, and once. So its response, cycle by cycle, is a mark until a cycle takes it.
-use Prim.Native.Nat.{ℕ, zero, suc, _+_, _-_, _≤_, _<_}
-use mathlib.Core.Path.{_≡_, refl, sym, _∙_, ap, subst}
+use Prim.Native.Nat.{ℕ, zero, suc, _≤_, _<_}
+use mathlib.Core.Path.{_≡_, refl, sym, _∙_, ap}
 use mathlib.Core.Bool.{Bool, true, false, not, cond, _&&_, _||_, true≢false}
 use mathlib.Core.List.{List}
 use native.Mathlib.Omega.{arith}
 use native.Mathlib.Decide.{ℕ-discrete, decLt}
-use borrow.Author.Tests.{leb-true, le-leb, lt-ltb, not-true, eq-eqb, ne-eqb}
-use lib.Dec.{leb, ltb, eqb}
+use borrow.Author.Tests.{leb-true, lt-ltb, not-true, eq-eqb, ne-eqb}
+use lib.Dec.{leb, eqb}
 use Rattle.answers.specs.Limits.{maxCycles}
 use Rattle.answers.specs.Lowest.{lowest}
-use Rattle.answers.proofs.Lowest.{Nowhere, lowest-is, lowest-found}
+use Rattle.answers.proofs.Lowest.{Nowhere, lowest-is}
 use Rattle.answers.proofs.Ranges.{both-true, either-false}
 use Rattle.cycles.specs.Cycle.{Network}
-use Rattle.cycles.specs.Run.{STILL-WAITING, RELEASED-PAST-RUN, releaseOf, waits, takenBefore, readyIn, takenIn, markFor, cyclesThrough, responseBy}
+use Rattle.cycles.specs.Run.{STILL-WAITING, RELEASED-PAST-RUN, releaseOf, takenBefore, readyIn, takenIn, markFor, cyclesThrough, responseBy}
 use Rattle.cycles.specs.Steps.{stillReady, responseAfter}
 use Rattle.cycles.specs.Responses.{TakenFromRelease, TakenOnce}
 use Rattle.cycles.proofs.Loads.{was-ready}

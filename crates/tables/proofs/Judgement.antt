@@ -2,7 +2,7 @@
 use Prim.Native.Nat.{ℕ, zero, suc, _+_, _*_, _/_, _%_, _<_}
 use mathlib.Core.Path.{_≡_, refl, sym, _∙_, ap, subst}
 use mathlib.Core.Logic.{_⊎_, inl, inr}
-use mathlib.Core.Bool.{Bool, true, false, not, _&&_, _||_, true≢false}
+use mathlib.Core.Bool.{Bool, true, false, not, _&&_, _||_, true≢false, and-false}
 use mathlib.Core.List.{List}
 use native.Mathlib.Omega.{arith}
 use native.Mathlib.Decide.{ℕ-discrete, decLt}
@@ -35,11 +35,7 @@ right-entry L j e (inl z) = rw (eq-eqb e 0 z)
 right-entry L j e (inr f) =
     ap (λ (b : Bool). not (eqb e 0) && (b || not (goesTo L e j))) (within-test (f .is-flow))
     ∙ ap (λ (b : Bool). not (eqb e 0) && not b) (f .its-output)
-    ∙ last (not (eqb e 0))
-  where
-    last : (b : Bool) → (b && false) ≡ false
-    last true = refl
-    last false = refl
+    ∙ and-false (not (eqb e 0))
 
 -- a table with a place has a slot
 some-slot : (p N M : ℕ) → p < N * M → 0 < M

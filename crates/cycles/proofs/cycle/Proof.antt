@@ -1,6 +1,5 @@
 -- `cycles::cycle` meets its contract: that the answer is done says what taking the messages asks.
 use native.Mathlib.Omega.{arith}
-use Prim.Native.Nat.{_≤_}
 use Rattle.cycles.specs.Cycle.{network}
 use Rattle.cycles.proofs.Outcomes.{cycle-sized, cycle-refused, cycled}
 use borrow.Author.Needs.{needs}

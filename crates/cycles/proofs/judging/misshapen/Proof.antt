@@ -1,5 +1,5 @@
 -- `cycles::judging::misshapen` meets its contract: each way out rewrites by what was found on the way.
-use mathlib.Core.Path.{sym, _∙_}
+use mathlib.Core.Path.{sym}
 use borrow.Author.Tests.{eq-eqb, ne-eqb}
 use Rattle.answers.proofs.Orders.{or-true, or-false}
 use borrow.Author.Needs.{needs}
