@@ -30,9 +30,11 @@ same-length-2 c = search needs
 
 returns-2 : tie.Need-returns-2
 returns-2 c =
+    let took = c .before .before .before .before .take-ready in
     let a = c .before .before .before .before .before .before .before .before .before .before .before .before .before .before .before .before .args in
     let w = network (a .windows .now) (a .sizes .now) (a .paths .now) in
-    cycled w (a .ready .now) (a .taken .now) (a .loads .now) (c .before .before .before .before .before .before .before .before .before .cycle-answer .ensures) (c .before .before .before .before .take-ready .last .1 .1 .1 .1 .0) (c .before .before .before .before .take-ready .last .1 .1 .1 .1 .1 .0) (c .before .before .before .before .before .before .before .if1 .left) (c .before .before .before .before .take-ready .ensures .0) (c .before .before .before .before .take-ready .ensures .1)
+    cycled w (a .ready .now) (a .taken .now) (a .loads .now) (c .before .before .before .before .before .before .before .before .before .cycle-answer .ensures)
+    (took .last .1 .1 .1 .1 .0) (took .last .1 .1 .1 .1 .1 .0) (c .before .before .before .before .before .before .before .if1 .left) (took .ensures .0) (took .ensures .1)
 
 pub cycle-spec : {M : Type 1} → statement M
 cycle-spec =

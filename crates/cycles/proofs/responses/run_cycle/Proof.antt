@@ -32,18 +32,28 @@ slice-aggregate-note-taken c = search needs
 
 note-taken-requires : tie.Need-note-taken-requires
 note-taken-requires c κs =
+    let made = c .before .before .before .before .before .before .before .before .before .make-ready in
+    let took = c .before .before .before .before .take-ready in
+    let asked = c .before .before .before .before .before .before .before .before .before .before .before .before .before .before .before .before .before .pre in
     let a = c .before .before .before .before .before .before .before .before .before .before .before .before .before .before .before .before .before .args in
     let w = network (a .windows .now) (a .sizes .now) (a .paths .now) in
-    (omega arith, (omega arith, (in-time w (a .releases .now) (a .responses .now) (a .cycle) (c .before .before .before .before .before .before .before .before .before .before .before .before .before .before .before .before .before .pre .0 .as-many-releases) (c .before .before .before .before .before .before .before .before .before .before .before .before .before .before .before .before .before .pre .0 .few-messages) (replicate maxMessages 0) (c .before .before .before .before .before .before .before .before .before .make-ready .last .1 .1 .1 .0) (replicate maxMessages 0) (c .before .before .before .before .take-ready .last .1 .1 .1 .1 .0) refl refl (c .before .before .before .before .before .before .before .before .before .make-ready .ensures) (c .before .before .before .before .take-ready .ensures .0), c .before .before .before .before .before .before .before .before .before .before .before .before .before .before .before .before .before .pre .1)))
+    let released =
+    in-time w (a .releases .now) (a .responses .now) (a .cycle) (asked .0 .as-many-releases) (asked .0 .few-messages)
+    (replicate maxMessages 0) (made .last .1 .1 .1 .0) (replicate maxMessages 0) (took .last .1 .1 .1 .1 .0) refl refl (made .ensures) (took .ensures .0) in
+    (omega arith, (omega arith, (released, asked .1)))
 
 same-length : tie.Need-same-length
 same-length c = search needs
 
 returns : tie.Need-returns
 returns c =
+    let made = c .before .before .before .before .before .before .before .before .before .before .before .before .make-ready in
+    let took = c .before .before .before .before .before .before .before .take-ready in
+    let asked = c .before .before .before .before .before .before .before .before .before .before .before .before .before .before .before .before .before .before .before .before .pre in
     let a = c .before .before .before .before .before .before .before .before .before .before .before .before .before .before .before .before .before .before .before .before .args in
     let w = network (a .windows .now) (a .sizes .now) (a .paths .now) in
-    cycle-over w (a .releases .now) (a .responses .now) (a .cycle) (c .before .before .before .before .before .before .before .before .before .before .before .before .before .before .before .before .before .before .before .before .pre .0 .as-many-releases) (c .before .before .before .before .before .before .before .before .before .before .before .before .before .before .before .before .before .before .before .before .pre .0 .few-messages) (replicate maxMessages 0) (c .before .before .before .before .before .before .before .before .before .before .before .before .make-ready .last .1 .1 .1 .0) (replicate maxMessages 0) (c .before .before .before .before .before .before .before .take-ready .last .1 .1 .1 .1 .0) refl refl (c .before .before .before .before .before .before .before .before .before .before .before .before .make-ready .ensures) (c .before .before .before .before .before .before .before .take-ready .ensures .0) _ (c .before .before .note-taken .ensures)
+    cycle-over w (a .releases .now) (a .responses .now) (a .cycle) (asked .0 .as-many-releases) (asked .0 .few-messages)
+    (replicate maxMessages 0) (made .last .1 .1 .1 .0) (replicate maxMessages 0) (took .last .1 .1 .1 .1 .0) refl refl (made .ensures) (took .ensures .0) _ (c .before .before .note-taken .ensures)
 
 pub run-cycle-spec : {M : Type 1} → statement M
 run-cycle-spec =

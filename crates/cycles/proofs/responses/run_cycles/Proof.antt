@@ -23,21 +23,21 @@ mark-releases-requires c κs = omega (arith, c .before .before .before .before .
 
 loop-holds : tie.Need-loop-holds Inv-loop μ-loop
 loop-holds c =
+    let asked = c .before .before .before .before .before .before .before .before .before .pre in
     let a = c .before .before .before .before .before .before .before .before .before .args in
-    let w = network (a .windows .now) (a .sizes .now) (a .paths .now) in (
-      written-same (responseBy w (a .releases .now) (a .cycles) 0) (a .responses .now) _ (messages w) (c .before .before .before .before .before .before .before .before .before .pre .0 .room) (none-over w (a .releases .now) (a .responses .now) _ (a .cycles) (c .before .before .before .before .before .before .before .before .before .pre .0 .as-many-releases) (c .before .before .mark-releases .ensures)),
-      (omega arith, refl),
-    )
+    let w = network (a .windows .now) (a .sizes .now) (a .paths .now) in
+    let first = none-over w (a .releases .now) (a .responses .now) _ (a .cycles) (asked .0 .as-many-releases) (c .before .before .mark-releases .ensures) in
+    (written-same (responseBy w (a .releases .now) (a .cycles) 0) (a .responses .now) _ (messages w) (asked .0 .room) first, (omega arith, refl))
 
 run-cycle-requires : tie.Need-run-cycle-requires Inv-loop μ-loop
 run-cycle-requires c κs =
-    let s = c .before .before .before .before .before .before .before .before .before .before .before .before .pre .0 in (
+    let asked = c .before .before .before .before .before .before .before .before .before .before .before .before .pre in (
       record {
-        few-links = s .few-links;
-        few-messages = s .few-messages;
-        as-many-sets = s .as-many-sets;
-        as-many-releases = s .as-many-releases;
-        room = omega (arith, s .room, c .before .before .loop .inv .1 .1, c .before .before .before .before .before .mark-releases .kept .1 .1 .0);
+        few-links = asked .0 .few-links;
+        few-messages = asked .0 .few-messages;
+        as-many-sets = asked .0 .as-many-sets;
+        as-many-releases = asked .0 .as-many-releases;
+        room = omega (arith, asked .0 .room, c .before .before .loop .inv .1 .1, c .before .before .before .before .before .mark-releases .kept .1 .1 .0);
       },
       omega arith,
     )
@@ -50,11 +50,15 @@ loop-less c = omega arith
 
 loop-again : tie.Need-loop-again Inv-loop μ-loop
 loop-again c =
+    let went = c .before .before .run-cycle in
     let l = c .before .before .before .before .before .loop in
+    let marked = c .before .before .before .before .before .before .before .before .mark-releases in
+    let asked = c .before .before .before .before .before .before .before .before .before .before .before .before .before .before .before .pre in
     let a = c .before .before .before .before .before .before .before .before .before .before .before .before .before .before .before .args in
-    let w = network (a .windows .now) (a .sizes .now) (a .paths .now) in (
-      one-over w (a .releases .now) (c .before .before .before .before .before .before .before .before .mark-releases .last .1 .1 .0) (l .responses) (c .before .before .run-cycle .last .1 .1 .1 .1 .1 .0) (a .cycles) (l .cycle) (c .before .before .before .before .before .before .before .before .before .before .before .before .before .before .before .pre .0 .as-many-releases) (omega (arith, c .before .before .before .before .before .before .before .before .before .before .before .before .before .before .before .pre .0 .room, c .before .before .before .before .before .before .before .before .mark-releases .kept .1 .1 .0)) (c .before .before .before .before .before .before .before .before .before .before .before .before .before .before .before .pre .1) (omega arith) (l .inv .0) (c .before .before .run-cycle .ensures),
-      (omega arith, c .before .before .run-cycle .kept .1 .1 .1 .1 .1 .0 ∙ l .inv .1 .1),
+    let w = network (a .windows .now) (a .sizes .now) (a .paths .now) in
+    let room : messages w ≤ length (marked .last .1 .1 .0) = omega (arith, asked .0 .room, marked .kept .1 .1 .0) in (
+      one-over w (a .releases .now) (marked .last .1 .1 .0) (l .responses) (went .last .1 .1 .1 .1 .1 .0) (a .cycles) (l .cycle) (asked .0 .as-many-releases) room (asked .1) (omega arith) (l .inv .0) (went .ensures),
+      (omega arith, went .kept .1 .1 .1 .1 .1 .0 ∙ l .inv .1 .1),
     )
 
 same-length : tie.Need-same-length Inv-loop μ-loop
@@ -63,12 +67,15 @@ same-length c = c .before .loop .inv .1 .1 ∙ c .before .before .before .before
 returns : tie.Need-returns Inv-loop μ-loop
 returns c =
     let l = c .before .loop in
+    let marked = c .before .before .before .before .mark-releases in
+    let asked = c .before .before .before .before .before .before .before .before .before .before .before .pre in
     let a = c .before .before .before .before .before .before .before .before .before .before .before .args in
     let w = network (a .windows .now) (a .sizes .now) (a .paths .now) in
+    let first = none-over w (a .releases .now) (a .responses .now) _ (a .cycles) (asked .0 .as-many-releases) (marked .ensures) in
     l .inv .0
-    ∙ ap (λ (n : ℕ). written (messages w) (responseBy w (a .releases .now) (a .cycles) n) (c .before .before .before .before .mark-releases .last .1 .1 .0)) (omega arith)
-    ∙ ap (λ (x : List ℕ). written (messages w) (responseOf w (a .releases .now) (a .cycles)) x) (none-over w (a .releases .now) (a .responses .now) _ (a .cycles) (c .before .before .before .before .before .before .before .before .before .before .before .pre .0 .as-many-releases) (c .before .before .before .before .mark-releases .ensures))
-    ∙ written-again (responseBy w (a .releases .now) (a .cycles) 0) (responseOf w (a .releases .now) (a .cycles)) (a .responses .now) (messages w) (c .before .before .before .before .before .before .before .before .before .before .before .pre .0 .room)
+    ∙ ap (λ (n : ℕ). written (messages w) (responseBy w (a .releases .now) (a .cycles) n) (marked .last .1 .1 .0)) (omega arith)
+    ∙ ap (λ (x : List ℕ). written (messages w) (responseOf w (a .releases .now) (a .cycles)) x) first
+    ∙ written-again (responseBy w (a .releases .now) (a .cycles) 0) (responseOf w (a .releases .now) (a .cycles)) (a .responses .now) (messages w) (asked .0 .room)
 
 pub run-cycles-spec : {M : Type 1} → statement M
 run-cycles-spec =

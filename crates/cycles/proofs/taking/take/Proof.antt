@@ -1,9 +1,10 @@
 -- `cycles::taking::take` meets its contract: each way out rewrites by what was found on the way.
 use native.Mathlib.Omega.{arith}
+use Prim.Native.Nat.{ℕ, _<_}
 use mathlib.Core.Path.{sym, _∙_, ap}
 use mathlib.Core.Bool.{Bool, cond}
 use borrow.Author.Tests.{eq-eqb}
-use lib.ListN.{length}
+use lib.ListN.{length, getD}
 use Rattle.answers.specs.Sums.{one}
 use Rattle.cycles.specs.Steps.{added}
 use Rattle.cycles.proofs.Messages.{all-fit, held, goes}
@@ -33,7 +34,9 @@ add-requires c κs =
     let a = c .before .before .before .before .before .before .before .args in
     let W = a .windows .now in
     let X = a .load .now in
-    (c .before .before .before .before .before .before .before .pre .0, (c .before .before .before .before .before .before .before .pre .1, all-fit W X (a .size) (a .set) (λ l. omega (arith, c .before .before .before .before .before .before .shared-slice-known .given l)) (λ l. omega (arith, c .before .before .before .before .before .slice-known .given l)) (sym (c .before .before .no-room .ensures) ∙ c .before .if2 .left)))
+    let windows : (l : ℕ) → getD W l 0 < 65536 = λ l. omega (arith, c .before .before .before .before .before .before .shared-slice-known .given l) in
+    let loads : (l : ℕ) → getD X l 0 < 65536 = λ l. omega (arith, c .before .before .before .before .before .slice-known .given l) in
+    (c .before .before .before .before .before .before .before .pre .0, (c .before .before .before .before .before .before .before .pre .1, all-fit W X (a .size) (a .set) windows loads (sym (c .before .before .no-room .ensures) ∙ c .before .if2 .left)))
 
 same-length-2 : tie.Need-same-length-2
 same-length-2 c = search needs

@@ -33,12 +33,13 @@ loop-holds : tie.Need-loop-holds Inv-loop μ-loop
 loop-holds c =
     let a = c .before .before .before .before .before .before .before .before .before .before .args in
     let w = network (a .windows .now) (a .sizes .now) (a .paths .now) in
+    let due = marked (a .ready .now) in
     record {
       below = omega arith;
       same-bytes = refl;
       same-loads = refl;
       bytes = sym (written-none _ _);
-      loads = written-same (loadAfter w (marked (a .ready .now)) 0) (a .load .now) _ (links w) (omega arith) (none-loaded w (marked (a .ready .now)) (a .load .now) _ (c .before .before .clear .ensures));
+      loads = written-same (loadAfter w due 0) (a .load .now) _ (links w) (omega arith) (none-loaded w due (a .load .now) _ (c .before .before .clear .ensures));
     }
 
 mul-take : tie.Need-mul-take Inv-loop μ-loop
@@ -70,18 +71,21 @@ loop-less c = omega arith
 
 loop-again : tie.Need-loop-again Inv-loop μ-loop
 loop-again c =
+    let took = c .before .before .take in
     let l = c .before .before .before .before .before .before .before .before .loop in
+    let cleared = c .before .before .before .before .before .before .before .before .before .before .before .clear in
     let a = c .before .before .before .before .before .before .before .before .before .before .before .before .before .before .before .before .before .before .before .args in
     let w = network (a .windows .now) (a .sizes .now) (a .paths .now) in
-    let took = takes-it w (a .ready .now) (c .before .before .before .before .before .before .before .before .before .before .before .clear .last .0) (l .load) (l .message) (omega (arith, c .before .before .before .before .before .before .before .before .before .before .before .clear .kept .0)) (l .inv .loads) in
+    let room : links w ≤ length (cleared .last .0) = omega (arith, cleared .kept .0) in
+    let takes = takes-it w (a .ready .now) (cleared .last .0) (l .load) (l .message) room (l .inv .loads) in
     record {
       below = omega arith;
       same-bytes = simp length-set (l .inv .same-bytes);
-      same-loads = c .before .before .take .kept .1 .1 .1 .1 .0 ∙ l .inv .same-loads;
+      same-loads = took .kept .1 .1 .1 .1 .0 ∙ l .inv .same-loads;
       bytes =
-          ap (λ (x : List ℕ). set x (l .message) (c .before .before .take .result)) (l .inv .bytes)
-          ∙ written-more (λ j. one (taken w (marked (a .ready .now)) j)) (a .taken-bytes .now) (l .message) _ (c .before .before .take .ensures .0 ∙ ap one took);
-      loads = loads-more w (a .ready .now) (c .before .before .before .before .before .before .before .before .before .before .before .clear .last .0) (l .load) (l .message) (omega (arith, c .before .before .before .before .before .before .before .before .before .before .before .clear .kept .0)) (l .inv .loads) _ (c .before .before .take .last .1 .1 .1 .1 .0) took (c .before .before .take .ensures .1);
+          ap (λ (x : List ℕ). set x (l .message) (took .result)) (l .inv .bytes)
+          ∙ written-more (λ j. one (taken w (marked (a .ready .now)) j)) (a .taken-bytes .now) (l .message) _ (took .ensures .0 ∙ ap one takes);
+      loads = loads-more w (a .ready .now) (cleared .last .0) (l .load) (l .message) room (l .inv .loads) _ (took .last .1 .1 .1 .1 .0) takes (took .ensures .1);
     }
 
 same-length : tie.Need-same-length Inv-loop μ-loop
@@ -93,14 +97,16 @@ same-length-2 c = c .before .loop .inv .same-loads ∙ c .before .before .before
 returns : tie.Need-returns Inv-loop μ-loop
 returns c =
     let l = c .before .loop in
+    let cleared = c .before .before .before .before .clear in
     let a = c .before .before .before .before .before .before .before .before .before .before .before .before .args in
     let w = network (a .windows .now) (a .sizes .now) (a .paths .now) in
+    let due = marked (a .ready .now) in
     let all : l .message ≡ messages w = omega arith in (
-      l .inv .bytes ∙ ap (λ (n : ℕ). written n (λ j. one (taken w (marked (a .ready .now)) j)) (a .taken-bytes .now)) all,
+      l .inv .bytes ∙ ap (λ (n : ℕ). written n (λ j. one (taken w due j)) (a .taken-bytes .now)) all,
       l .inv .loads
-          ∙ ap (λ (n : ℕ). written (links w) (loadAfter w (marked (a .ready .now)) n) (c .before .before .before .before .clear .last .0)) all
-          ∙ ap (λ (x : List ℕ). written (links w) (loadAfter w (marked (a .ready .now)) (messages w)) x) (c .before .before .before .before .clear .ensures)
-          ∙ written-again (λ l. 0) (loadAfter w (marked (a .ready .now)) (messages w)) (a .load .now) (links w) (omega arith),
+          ∙ ap (λ (n : ℕ). written (links w) (loadAfter w due n) (cleared .last .0)) all
+          ∙ ap (λ (x : List ℕ). written (links w) (loadAfter w due (messages w)) x) (cleared .ensures)
+          ∙ written-again (λ l. 0) (loadAfter w due (messages w)) (a .load .now) (links w) (omega arith),
     )
 
 pub take-ready-spec : {M : Type 1} → statement M
