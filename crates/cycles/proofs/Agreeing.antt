@@ -34,18 +34,18 @@ loads-same (suc i) w w' ready ready' s l =
     λ k. before l k + cond (takes-same w w' ready ready' (loadAfter w ready i) (loadAfter w' ready' i) i (s .windows) size path (s .due i (omega arith)) before k) (share (size k) (path k) l) 0
 
 pub lower-do-not-count : LowerDoNotCount
-lower-do-not-count i w w' ready ready' s =
-    takes-same w w' ready ready' (loadAfter w ready i) (loadAfter w' ready' i) i
-    (s .same-windows) (s .same-sizes i (omega arith)) (s .same-paths i (omega arith)) (s .same-ready i (omega arith))
-    (loads-same i w w' ready ready' (record {
+lower-do-not-count i w w' ready ready' s due =
+    takes-same w w' ready ready' (loadAfter w ready i) (loadAfter w' ready' i) i (s .same-windows) (s .same-sizes i (omega arith)) (s .same-paths i (omega arith)) (due i (omega arith))
+    (loads-same i w w' ready ready'
+    (record {
       windows = s .same-windows;
       sizes = λ j u. s .same-sizes j (omega arith);
       paths = λ j u. s .same-paths j (omega arith);
-      due = λ j u. s .same-ready j (omega arith);
+      due = λ j u. due j (omega arith);
     }))
 
 -- the same network, with lists of what is ready that agree on its first n messages
 pub ready-agrees : (w : Network) (n : ℕ) (ready ready' : ℕ → Bool) → ((j : ℕ) → j < n → ready j ≡ ready' j)
     → (i : ℕ) → i < n → taken w ready i ≡ taken w ready' i
 ready-agrees w n ready ready' h i u =
-    lower-do-not-count i w w ready ready' (record { same-windows = refl; same-sizes = λ j l. refl; same-paths = λ j l. refl; same-ready = λ j l. h j (omega arith) })
+    lower-do-not-count i w w ready ready' (record { same-windows = refl; same-sizes = λ j l. refl; same-paths = λ j l. refl }) (λ j l. h j (omega arith))

@@ -18,7 +18,8 @@ use Rattle.answers.proofs.Sums.{sum-at-most, sum-less}
 use Rattle.cycles.specs.Cycle.{Network, messages, taken}
 use Rattle.cycles.specs.Judging.{messageAboveWindow, networkAnswer}
 use Rattle.cycles.specs.Run.{STILL-WAITING, RELEASED-PAST-RUN, releaseOf, waits, takenBefore, readyIn, takenIn, markFor, cyclesThrough, responseOf}
-use Rattle.cycles.specs.Responses.{ResponseCounts, MarkedWaiting, MarkedPast, SameRunDownTo, LowerDoNotDelay, ResponseBounded}
+use Rattle.cycles.specs.HouseRule.{SameDownTo}
+use Rattle.cycles.specs.Responses.{ResponseCounts, MarkedWaiting, MarkedPast, LowerDoNotDelay, ResponseBounded}
 use Rattle.cycles.proofs.Agreeing.{lower-do-not-count}
 use Rattle.cycles.proofs.Judged.{none-due}
 use Rattle.cycles.proofs.Loads.{held-by-higher}
@@ -67,42 +68,33 @@ marked-waiting w R cycles i few = waiting w R cycles i few
 pub marked-past : MarkedPast
 marked-past w R cycles i few = past w R cycles i few
 
+-- what is the same down to i is so down to each message above
+down : {i j : ℕ} {w w' : Network} → j ≤ i → SameDownTo i w w' → SameDownTo j w w'
+down l s = record { same-windows = s .same-windows; same-sizes = λ k u. s .same-sizes k (omega arith); same-paths = λ k u. s .same-paths k (omega arith) }
+
 -- lower priorities do not delay a message: cycle by cycle the same messages down to it wait, and so the same are taken
 module _ (w w' : Network) (R R' : List ℕ) where
-  down : (i j : ℕ) → j ≤ i → SameRunDownTo i w w' R R' → SameRunDownTo j w w' R R'
-  down i j l s =
-      record {
-        same-windows = s .same-windows;
-        same-sizes = λ k u. s .same-sizes k (omega arith);
-        same-paths = λ k u. s .same-paths k (omega arith);
-        same-releases = λ k u. s .same-releases k (omega arith);
-      }
+  abbrev SameReleases : ℕ → Type 0
+  SameReleases i = (j : ℕ) → j ≤ i → releaseOf R j ≡ releaseOf R' j
 
-  same-then : (t i : ℕ) → SameRunDownTo i w w' R R' → ((j : ℕ) → j ≤ i → takenBefore w R t j ≡ takenBefore w' R' t j) → takenIn w R t i ≡ takenIn w' R' t i
-  same-then t i s earlier =
-      lower-do-not-count i w w' (readyIn w R t) (readyIn w' R' t)
-      (record {
-        same-windows = s .same-windows;
-        same-sizes = s .same-sizes;
-        same-paths = s .same-paths;
-        same-ready = λ j l. λ k. leb (s .same-releases j l k) t && not (earlier j l k);
-      })
+  same-then : (t i : ℕ) → SameDownTo i w w' → SameReleases i → ((j : ℕ) → j ≤ i → takenBefore w R t j ≡ takenBefore w' R' t j) → takenIn w R t i ≡ takenIn w' R' t i
+  same-then t i s r earlier = lower-do-not-count i w w' (readyIn w R t) (readyIn w' R' t) s (λ j l. λ k. leb (r j l k) t && not (earlier j l k))
 
-  same-before : (t i : ℕ) → SameRunDownTo i w w' R R' → takenBefore w R t i ≡ takenBefore w' R' t i
-  same-before zero i s = before-none w R i ∙ sym (before-none w' R' i)
-  same-before (suc t) i s =
-      let earlier : (j : ℕ) → j ≤ i → takenBefore w R t j ≡ takenBefore w' R' t j = λ j l. same-before t j (down i j l s) in
-      before-step w R i t ∙ (λ k. earlier i (omega arith) k || same-then t i s earlier k) ∙ sym (before-step w' R' i t)
+  same-before : (t i : ℕ) → SameDownTo i w w' → SameReleases i → takenBefore w R t i ≡ takenBefore w' R' t i
+  same-before zero i s r = before-none w R i ∙ sym (before-none w' R' i)
+  same-before (suc t) i s r =
+      let earlier : (j : ℕ) → j ≤ i → takenBefore w R t j ≡ takenBefore w' R' t j = λ j l. same-before t j (down l s) (λ k u. r k (omega arith)) in
+      before-step w R i t ∙ (λ k. earlier i (omega arith) k || same-then t i s r earlier k) ∙ sym (before-step w' R' i t)
 
-  same-in : (t i : ℕ) → SameRunDownTo i w w' R R' → takenIn w R t i ≡ takenIn w' R' t i
-  same-in t i s = same-then t i s (λ j l. same-before t j (down i j l s))
+  same-in : (t i : ℕ) → SameDownTo i w w' → SameReleases i → takenIn w R t i ≡ takenIn w' R' t i
+  same-in t i s r = same-then t i s r (λ j l. same-before t j (down l s) (λ k u. r k (omega arith)))
 
 pub lower-do-not-delay : LowerDoNotDelay
-lower-do-not-delay i w w' R R' cycles s =
-    λ k. cond (same-before w w' R R' cycles i s k) (cyclesThrough (release k) (lowest 0 cycles (λ u. same-in w w' R R' u i s k))) (markFor (release k) cycles)
+lower-do-not-delay i w w' R R' cycles s r =
+    λ k. cond (same-before w w' R R' cycles i s r k) (cyclesThrough (release k) (lowest 0 cycles (λ u. same-in w w' R R' u i s r k))) (markFor (release k) cycles)
   where
     release : releaseOf R i ≡ releaseOf R' i
-    release = s .same-releases i (omega arith)
+    release = r i (omega arith)
 
 -- how many of the messages above i were taken before cycle t
 abbrev gone : Network → List ℕ → ℕ → ℕ → ℕ

@@ -26,17 +26,17 @@ TakenExactly =
     → (taken w ready i ≡ true)
     ↔ ((ready i ≡ true) × ((l : ℕ) → l < links w → onPath w i l ≡ true → takenSoFar w ready i l + sizeOf w i ≤ windowOf w l))
 
--- two networks and two lists of what is ready that have the same windows, and the same messages down to i
-pub record SameDownTo (i : ℕ) (w w' : Network) (ready ready' : ℕ → Bool) : Type 0 where
+-- two networks that have the same windows, and the same messages down to i
+pub record SameDownTo (i : ℕ) (w w' : Network) : Type 0 where
   pub same-windows : w .windows ≡ w' .windows
   pub same-sizes : (j : ℕ) → j ≤ i → sizeOf w j ≡ sizeOf w' j
   pub same-paths : (j : ℕ) → j ≤ i → pathOf w j ≡ pathOf w' j
-  pub same-ready : (j : ℕ) → j ≤ i → ready j ≡ ready' j
 
 -- a message's being taken does not depend on messages of lower priority: they may be others, be more or fewer, and be ready or not
 abbrev pub LowerDoNotCount : Type 0
 LowerDoNotCount =
-    (i : ℕ) (w w' : Network) (ready ready' : ℕ → Bool) → SameDownTo i w w' ready ready' → taken w ready i ≡ taken w' ready' i
+    (i : ℕ) (w w' : Network) (ready ready' : ℕ → Bool)
+    → SameDownTo i w w' → ((j : ℕ) → j ≤ i → ready j ≡ ready' j) → taken w ready i ≡ taken w' ready' i
 
 -- message j has a higher priority than i, is taken, and has a link in common with i
 pub record TakenAhead (w : Network) (ready : ℕ → Bool) (i j l : ℕ) : Type 0 where

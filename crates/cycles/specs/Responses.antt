@@ -6,8 +6,9 @@ use mathlib.Core.Bool.{true, false}
 use mathlib.Core.List.{List}
 use Rattle.answers.specs.Numbers.{DONE}
 use Rattle.answers.specs.Limits.{maxCycles}
-use Rattle.cycles.specs.Cycle.{Network, messages, sizeOf, pathOf}
+use Rattle.cycles.specs.Cycle.{Network, messages}
 use Rattle.cycles.specs.Judging.{runAnswer}
+use Rattle.cycles.specs.HouseRule.{SameDownTo}
 use Rattle.cycles.specs.Run.{STILL-WAITING, RELEASED-PAST-RUN, releaseOf, takenIn, responseOf}
 
 -- no cycle takes a message before its release, and no two cycles take it
@@ -34,17 +35,11 @@ MarkedPast =
     (w : Network) (R : List ℕ) (cycles i : ℕ) → cycles ≤ maxCycles
     → (responseOf w R cycles i ≡ RELEASED-PAST-RUN) ↔ (cycles ≤ releaseOf R i)
 
--- two networks and two lists of releases that have the same windows, and the same messages down to i
-pub record SameRunDownTo (i : ℕ) (w w' : Network) (R R' : List ℕ) : Type 0 where
-  pub same-windows : w .windows ≡ w' .windows
-  pub same-sizes : (j : ℕ) → j ≤ i → sizeOf w j ≡ sizeOf w' j
-  pub same-paths : (j : ℕ) → j ≤ i → pathOf w j ≡ pathOf w' j
-  pub same-releases : (j : ℕ) → j ≤ i → releaseOf R j ≡ releaseOf R' j
-
--- a message's response does not depend on messages of lower priority
+-- a message's response does not depend on messages of lower priority: they may be others, be more or fewer, and be released when they like
 abbrev pub LowerDoNotDelay : Type 0
 LowerDoNotDelay =
-    (i : ℕ) (w w' : Network) (R R' : List ℕ) (cycles : ℕ) → SameRunDownTo i w w' R R' → responseOf w R cycles i ≡ responseOf w' R' cycles i
+    (i : ℕ) (w w' : Network) (R R' : List ℕ) (cycles : ℕ)
+    → SameDownTo i w w' → ((j : ℕ) → j ≤ i → releaseOf R j ≡ releaseOf R' j) → responseOf w R cycles i ≡ responseOf w' R' cycles i
 
 -- a message's response is at most one more than the number of messages of higher priority, of which message i has i, if the run goes on that long;
 -- so it is a response and no mark
