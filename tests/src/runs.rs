@@ -182,12 +182,12 @@ mod tests {
     /// The responses by one cycle after another, each with the ready bytes made anew.
     fn by_cycles(lists: &Lists, releases: &[u16], cycles: u32) -> Vec<u16> {
         let mut responses: Vec<Option<u16>> = vec![None; releases.len()];
-        for now in 0..cycles as u16 {
-            let is_ready = |m: usize| releases[m] <= now && responses[m].is_none();
+        for turn in 0..cycles as u16 {
+            let is_ready = |m: usize| releases[m] <= turn && responses[m].is_none();
             let ready: Vec<u8> = (0..releases.len()).map(|m| is_ready(m).into()).collect();
             let (taken, _) = cycled(lists, &ready);
             for m in (0..releases.len()).filter(|&m| taken[m] == 1) {
-                responses[m] = Some(now - releases[m] + 1);
+                responses[m] = Some(turn - releases[m] + 1);
             }
         }
         let mark = |m: usize| if u32::from(releases[m]) < cycles { WAITS } else { LATER };

@@ -4,7 +4,7 @@ use mathlib.Core.Path.{_≡_, refl, sym, _∙_, ap}
 use mathlib.Core.Bool.{Bool, true, false}
 use native.Mathlib.Omega.{arith}
 use native.Mathlib.Decide.{ℕ-discrete, decLt}
-use native.Mathlib.Nat.{le-antisymm, zero-mul, suc-mul, add-zero, add-suc}
+use native.Mathlib.Nat.{le-antisymm, zero-mul, mul-one, suc-mul, add-zero, add-suc}
 use native.Mathlib.Numerals.{add-one}
 use Rattle.answers.specs.Sums.{sum, one}
 
@@ -134,6 +134,14 @@ term-below (suc n) f g h = go (decLt (f n) (g n)) (λ x. term-below n f g x)
     go (no d) later =
         let found = later (omega arith) in
         (found .0, omega (arith, found .1), found .2)
+
+-- a count over n numbers is at most n
+pub count-at-most : (n : ℕ) (t : ℕ → Bool) → sum n (λ k. one (t k)) ≤ n
+count-at-most n t = omega (arith, sum-at-most n (λ k. one (t k)) 1 (λ k l. at-most (t k)), mul-one n)
+  where
+    at-most : (b : Bool) → one b ≤ 1
+    at-most true = omega arith
+    at-most false = omega arith
 
 -- a count of which no two hold is at most 1
 pub count-once : (n : ℕ) (t : ℕ → Bool) → ((a b : ℕ) → a < n → b < n → t a ≡ true → t b ≡ true → a ≡ b) → sum n (λ k. one (t k)) ≤ 1

@@ -8,7 +8,7 @@ use native.Mathlib.Numerals.{add-one}
 use borrow.Author.Tests.{leb-true, ne-eqb}
 use lib.ListN.{length, getD}
 use lib.Dec.{eqb, leb}
-use Rattle.answers.specs.Limits.{maxCycles}
+use Rattle.answers.specs.Limits.{maxMessages, maxCycles}
 use Rattle.answers.specs.Sums.{one}
 use Rattle.answers.specs.Buffers.{written}
 use Rattle.answers.proofs.Buffers.{written-at, written-agree, written-again}
@@ -29,8 +29,8 @@ marked-is : (n : ℕ) (f : ℕ → Bool) (B₀ B : List ℕ) → n ≤ length B�
 marked-is n f B₀ B room e i u =
     ap (λ (x : ℕ). not (eqb x 0)) (ap (λ (x : List ℕ). getD x i 0) e ∙ written-at (λ j. one (f j)) B₀ n i u room) ∙ marked-one (f i)
 
-module _ (w : Network) (R X : List ℕ) (t : ℕ) (same : length R ≡ messages w) (few : messages w ≤ 64)
-    (B₀ ready T₀ T : List ℕ) (ready-room : length B₀ ≡ 64) (taken-room : length T₀ ≡ 64)
+module _ (w : Network) (R X : List ℕ) (t : ℕ) (same : length R ≡ messages w) (few : messages w ≤ maxMessages)
+    (B₀ ready T₀ T : List ℕ) (ready-room : length B₀ ≡ maxMessages) (taken-room : length T₀ ≡ maxMessages)
     (made : ready ≡ written (length R) (λ i. one (readyNow R X t i)) B₀)
     (took : T ≡ written (messages w) (λ i. one (taken w (marked ready) i)) T₀) where
   -- the bytes after the cycle say what it takes of those that are ready

@@ -15,13 +15,10 @@ use Rattle.answers.specs.Answers.{answer, refusal, doneWith}
 use Rattle.answers.proofs.First.{NoneHolds, lowest-named, lowest-passed, done-exactly}
 use Rattle.answers.proofs.Ranges.{either-false}
 use Rattle.cycles.specs.Cycle.{Network, links, messages}
-use Rattle.cycles.specs.Judging.{missized, messageMisshapen, messageAboveWindow, networkRules, networkAnswer}
+use Rattle.cycles.specs.Judging.{networkMissized, messageMisshapen, messageAboveWindow, networkRules, networkAnswer}
 use Rattle.cycles.specs.Refusals.{Sized}
 
 module _ (w : Network) (other short : Bool) where
-  abbrev sizes-wrong : Bool
-  sizes-wrong = missized (links w) (messages w) (length (w .paths))
-
   -- what is answered after 34, after 30, and after 31
   abbrev after-31 : Answer
   after-31 = cond short (refusal BUFFER-TOO-SMALL) (doneWith (pos 0))
@@ -32,14 +29,14 @@ module _ (w : Network) (other short : Bool) where
   abbrev after-34 : Answer
   after-34 = cond (holdsSomewhere 0 (messages w) (messageMisshapen w)) (answer MESSAGE-MISSHAPEN (pos (lowest 0 (messages w) (messageMisshapen w)))) after-30
 
-  by-sizes : (a b : Bool) → sizes-wrong ≡ a → other ≡ b → networkAnswer w other short ≡ cond (a || b) (refusal CYCLES-MISSIZED) after-34
+  by-sizes : (a b : Bool) → networkMissized w ≡ a → other ≡ b → networkAnswer w other short ≡ cond (a || b) (refusal CYCLES-MISSIZED) after-34
   unfolding networkAnswer
   by-sizes a b e f = λ k. cond (e k || f k) (refusal CYCLES-MISSIZED) after-34
 
-  pub sizes-refused : sizes-wrong ≡ true → refusal CYCLES-MISSIZED ≡ networkAnswer w other short
+  pub sizes-refused : networkMissized w ≡ true → refusal CYCLES-MISSIZED ≡ networkAnswer w other short
   sizes-refused e = sym (by-sizes true other e refl)
 
-  module _ (sized : sizes-wrong ≡ false) where
+  module _ (sized : networkMissized w ≡ false) where
     pub others-refused : other ≡ true → refusal CYCLES-MISSIZED ≡ networkAnswer w other short
     others-refused f = sym (by-sizes false true sized f)
 
@@ -61,9 +58,9 @@ module _ (w : Network) (other short : Bool) where
             ∙ lowest-passed 0 (messages w) (messageAboveWindow w) m large _ after-31 (omega arith)
             ∙ to-30
 
-  pub sized : (sizes-wrong || other) ≡ false → Sized w other
+  pub sized : (networkMissized w || other) ≡ false → Sized w other
   sized e =
-      let a = either-false sizes-wrong other e in
+      let a = either-false (networkMissized w) other e in
       let b = either-false (ltb maxCycleLinks (links w)) _ (a .0) in
       let d = either-false (ltb maxMessages (messages w)) _ (b .1) in
       record {

@@ -31,7 +31,7 @@ module _ (W : List ℕ) (load : ℕ → ℕ) (size set : ℕ) where
       ltb-false (getD W l 0) (load l + size)
       (second-false (inSet set l) (ltb (getD W l 0) (load l + size)) (somewhere-false 0 (length W) (tooMuch W load size set) e l (omega arith) (omega arith)) on)
 
-  pub on-room : ((l : ℕ) → l < length W → inSet set l ≡ true → load l + size ≤ getD W l 0) → noRoom W load size set ≡ false
+  on-room : ((l : ℕ) → l < length W → inSet set l ≡ true → load l + size ≤ getD W l 0) → noRoom W load size set ≡ false
   on-room h = nowhere-test 0 (length W) (tooMuch W load size set) (λ l a u. at l (omega arith) (inSet set l) refl)
     where
       at : (l : ℕ) → l < length W → (b : Bool) → inSet set l ≡ b → (b && ltb (getD W l 0) (load l + size)) ≡ false
@@ -51,7 +51,7 @@ either-way : (a b : Bool) (x : ℕ) → cond a (cond b x 0) 0 ≡ cond (a && b) 
 either-way true b x = refl
 either-way false b x = refl
 
-pub load-so-far : (w : Network) (ready : ℕ → Bool) (i l : ℕ) → loadAfter w ready i l ≡ takenSoFar w ready i l
+load-so-far : (w : Network) (ready : ℕ → Bool) (i l : ℕ) → loadAfter w ready i l ≡ takenSoFar w ready i l
 load-so-far w ready zero l = load-none w ready l ∙ sym (sum-none _)
 load-so-far w ready (suc i) l =
     load-step w ready i l
@@ -67,7 +67,7 @@ was-ready w ready load i e =
     let parts = both-true (ready i) (not (noRoom (w .windows) load (sizeOf w i) (pathOf w i))) e in
     (parts .0, not-true _ (parts .1))
 
-pub load-within : (w : Network) (ready : ℕ → Bool) (i l : ℕ) → l < links w → loadAfter w ready i l ≤ windowOf w l
+load-within : (w : Network) (ready : ℕ → Bool) (i l : ℕ) → l < links w → loadAfter w ready i l ≤ windowOf w l
 load-within w ready zero l u = omega (arith, load-none w ready l)
 load-within w ready (suc i) l u =
     subst (λ (x : ℕ). x ≤ windowOf w l) (sym (load-step w ready i l)) (go (taken w ready i) refl (onPath w i l) refl (load-within w ready i l u))

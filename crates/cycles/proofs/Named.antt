@@ -1,6 +1,6 @@
 -- Refusals 30 and 31: what is tested of a message is what is said of it, so each names the lowest such message.
 use Prim.Native.Nat.{ℕ, _+_, _-_, _<_}
-use mathlib.Core.Path.{_≡_, refl, ap}
+use mathlib.Core.Path.{_≡_, refl}
 use mathlib.Core.Logic.{_↔_}
 use mathlib.Core.Bool.{Bool, true, false, not, _||_}
 use mathlib.Core.List.{[], _∷_}
@@ -15,14 +15,12 @@ use Rattle.answers.specs.Lowest.{lowest, IsLowest}
 use Rattle.answers.specs.Answers.{Rule, answer, refusal, doneWith, _when_, namingLowest}
 use Rattle.answers.proofs.First.{named-exactly, not-named, none-named}
 use Rattle.answers.proofs.Lowest.{lowest-found, somewhere-test}
+use Rattle.answers.proofs.Orders.{or-true}
 use Rattle.cycles.specs.Cycle.{Network, links, messages, sizeOf, pathOf, inSet}
-use Rattle.cycles.specs.Judging.{missized, linkMissing, messageMisshapen, messageAboveWindow, networkAnswer}
+use Rattle.cycles.specs.Judging.{networkMissized, linkMissing, messageMisshapen, messageAboveWindow, networkAnswer}
 use Rattle.cycles.specs.Refusals.{Sized, Misshapen, empty-set, no-such-link, no-size, AboveWindow, NamesMisshapen, NamesAboveWindow}
 use Rattle.cycles.proofs.Loads.{no-room-on, room-on}
 use Rattle.cycles.proofs.Judged.{sized}
-
-first-or : (a b : Bool) → a ≡ true → (a || b) ≡ true
-first-or a b e = ap (λ (x : Bool). x || b) e
 
 second-or : (a b : Bool) → b ≡ true → (a || b) ≡ true
 second-or true b e = refl
@@ -47,9 +45,9 @@ module _ (w : Network) where
         go false f false g h = no-size (eqb-true (sizeOf w i) 0 h)
 
     misshapen-means : Misshapen w i → messageMisshapen w i ≡ true
-    misshapen-means (empty-set e) = first-or _ _ (eq-eqb (pathOf w i) 0 e)
+    misshapen-means (empty-set e) = or-true _ refl (eq-eqb (pathOf w i) 0 e)
     misshapen-means (no-such-link l a b on) =
-        second-or (eqb (pathOf w i) 0) _ (first-or _ _ (somewhere-test (links w) (maxCycleLinks - links w) (inSet (pathOf w i)) l a (omega arith) on))
+        second-or (eqb (pathOf w i) 0) _ (or-true _ refl (somewhere-test (links w) (maxCycleLinks - links w) (inSet (pathOf w i)) l a (omega arith) on))
     misshapen-means (no-size e) =
         second-or (eqb (pathOf w i) 0) _ (second-or (linkMissing (links w) (pathOf w i)) _ (eq-eqb (sizeOf w i) 0 e))
 
@@ -67,7 +65,7 @@ module _ (w : Network) where
 
   module _ (other short : Bool) (k : ℕ) where
     abbrev sizes-due : Rule
-    sizes-due = refusal CYCLES-MISSIZED when (missized (links w) (messages w) (length (w .paths)) || other)
+    sizes-due = refusal CYCLES-MISSIZED when (networkMissized w || other)
 
     not-due : Sized w other → sizes-due .holds ≡ false
     not-due s =

@@ -14,7 +14,7 @@ use Rattle.answers.specs.Lowest.{lowest}
 use Rattle.answers.specs.Sums.{sum, one}
 use Rattle.answers.proofs.Lowest.{somewhere-false}
 use Rattle.answers.proofs.Ranges.{either-false}
-use Rattle.answers.proofs.Sums.{sum-at-most, sum-less}
+use Rattle.answers.proofs.Sums.{sum-less, count-at-most}
 use Rattle.cycles.specs.Cycle.{Network, messages, taken}
 use Rattle.cycles.specs.Judging.{messageAboveWindow, networkAnswer}
 use Rattle.cycles.specs.Run.{STILL-WAITING, RELEASED-PAST-RUN, releaseOf, waits, takenBefore, readyIn, takenIn, markFor, cyclesThrough, responseOf}
@@ -129,13 +129,9 @@ module _ (w : Network) (R : List ℕ) (i : ℕ) (within : messageAboveWindow w i
       let earlier = either-false (takenBefore w R (releaseOf R i + m) i) (takenIn w R (releaseOf R i + m) i) (sym (before-step w R i (releaseOf R i + m)) ∙ later) in
       omega (arith, all-gone m (earlier .0), one-more (releaseOf R i + m) (omega arith) later, ap (λ (t : ℕ). gone w R i t) next)
 
-  pub taken-in-time : takenBefore w R (releaseOf R i + suc i) i ≡ true
+  taken-in-time : takenBefore w R (releaseOf R i + suc i) i ≡ true
   taken-in-time = go (takenBefore w R (releaseOf R i + suc i) i) refl
     where
-      at-most-one : (b : Bool) → one b ≤ 1
-      at-most-one true = omega arith
-      at-most-one false = omega arith
-
       go : (b : Bool) → takenBefore w R (releaseOf R i + suc i) i ≡ b → b ≡ true
       go true e = refl
       go false e =
@@ -143,7 +139,7 @@ module _ (w : Network) (R : List ℕ) (i : ℕ) (within : messageAboveWindow w i
           (omega (
             arith,
             all-gone (suc i) e,
-            sum-at-most i (λ j. one (takenBefore w R (releaseOf R i + suc i) j)) 1 (λ j u. at-most-one (takenBefore w R (releaseOf R i + suc i) j)),
+            count-at-most i (λ j. takenBefore w R (releaseOf R i + suc i) j),
           ))
 
 -- where a run is done, no message's size is above a window on its path

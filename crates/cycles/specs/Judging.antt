@@ -16,6 +16,9 @@ use Rattle.cycles.specs.Cycle.{Network, links, messages, sizeOf, pathOf,
 abbrev pub missized : ℕ → ℕ → ℕ → Bool
 missized linkCount messageCount setCount = ltb maxCycleLinks linkCount || (ltb maxMessages messageCount || not (eqb setCount messageCount))
 
+abbrev pub networkMissized : Network → Bool
+networkMissized w = missized (links w) (messages w) (length (w .paths))
+
 -- a set has a link that is not there
 abbrev pub linkMissing : ℕ → ℕ → Bool
 linkMissing linkCount set = holdsSomewhere linkCount (maxCycleLinks - linkCount) (inSet set)
@@ -38,7 +41,7 @@ messageAboveWindow w i = aboveWindow (w .windows) (sizeOf w i) (pathOf w i)
 -- the refusals of a call about a network, in their order: 34, 30, 31, 21. Which other lists and numbers 34 judges, and which lent buffers 21, the call says.
 abbrev pub networkRules : Network → Bool → Bool → List Rule
 networkRules w otherMissized tooShort =
-    (refusal CYCLES-MISSIZED when (missized (links w) (messages w) (length (w .paths)) || otherMissized))
+    (refusal CYCLES-MISSIZED when (networkMissized w || otherMissized))
     ∷ namingLowest MESSAGE-MISSHAPEN 0 (messages w) (messageMisshapen w)
     ∷ namingLowest MESSAGE-ABOVE-WINDOW 0 (messages w) (messageAboveWindow w)
     ∷ (refusal BUFFER-TOO-SMALL when tooShort)

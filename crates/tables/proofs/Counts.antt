@@ -1,17 +1,16 @@
 -- The counts of all numbers among the first places of a table, kept in one pass, and what they are over the rows.
 use Prim.Native.Nat.{ℕ, _+_, _*_, _≤_, _<_}
 use mathlib.Core.Path.{_≡_, sym, _∙_, ap}
-use mathlib.Core.Bool.{Bool, true, false, not}
+use mathlib.Core.Bool.{true, false, not}
 use mathlib.Core.List.{List}
 use native.Mathlib.Omega.{arith}
 use native.Mathlib.Decide.{ℕ-discrete}
-use native.Mathlib.Nat.{mul-one}
 use borrow.Author.Tests.{eq-eqb, ne-eqb}
 use lib.Dec.{eqb}
 use lib.ListN.{length, getD, set, replicate, getD-replicate}
 use lib.Seq.{getD-set-same, getD-set-other}
-use Rattle.answers.specs.Sums.{sum, one}
-use Rattle.answers.proofs.Sums.{sum-none, sum-more, sum-at-most, sum-rows}
+use Rattle.answers.specs.Sums.{one}
+use Rattle.answers.proofs.Sums.{sum-none, sum-more, sum-rows, count-at-most}
 use Rattle.flows.specs.Flows.{cellsOf}
 use Rattle.tables.specs.Accepted.{times}
 use Rattle.tables.specs.Check.{countIn, Counted, countWrong}
@@ -37,14 +36,9 @@ count-more T place counts e is u kept k l = go (ℕ-discrete k e)
         getD-set-other counts e k (getD counts e 0 + 1) 0 d
         ∙ omega (arith, kept k l, more, ap one (ne-eqb (getD T place 0) k (λ x. d (sym x ∙ sym is))))
 
-one-at-most : (b : Bool) → one b ≤ 1
-one-at-most true = omega arith
-one-at-most false = omega arith
-
 pub count-bound : (T : List ℕ) (end k : ℕ) → countIn T end k ≤ end
 unfolding countIn
-count-bound T end k =
-    omega (arith, sum-at-most end (λ p. one (eqb (getD T p 0) k)) 1 (λ p l. one-at-most (eqb (getD T p 0) k)), mul-one end)
+count-bound T end k = count-at-most end (λ p. eqb (getD T p 0) k)
 
 -- over all places, the count is how many times the number stands in the table
 pub count-is-times : (M N : ℕ) (T : List ℕ) (k : ℕ) → countIn T (N * M) k ≡ times M N T k
