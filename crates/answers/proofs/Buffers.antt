@@ -15,9 +15,9 @@ module _ (f : ℕ → ℕ) (B : List ℕ) where
   written_none = refl
 
   -- one number more, as a loop counts
-  pub written-more : (n : ℕ) (x : ℕ) → x ≡ f n → set (written n f B) n x ≡ written (n + 1) f B
+  pub written_more : (n : ℕ) (x : ℕ) → x ≡ f n → set (written n f B) n x ≡ written (n + 1) f B
   unfolding written
-  written-more n x e = rw add-one (ap (λ (y : ℕ). set (written n f B) n y) e)
+  written_more n x e = rw add-one (ap (λ (y : ℕ). set (written n f B) n y) e)
 
   pub written-length : (n : ℕ) → length (written n f B) ≡ length B
   unfolding written
@@ -50,16 +50,16 @@ module _ (f : ℕ → ℕ) (B : List ℕ) where
       at k (yes l) = here k l ∙ sym (written_at n k l room)
       at k (no d) = past k (omega arith) ∙ sym (written-past n k (omega arith))
 
-pub written-agree : (f g : ℕ → ℕ) (B : List ℕ) (n : ℕ) → ((k : ℕ) → k < n → f k ≡ g k) → written n f B ≡ written n g B
+pub written_agree : (f g : ℕ → ℕ) (B : List ℕ) (n : ℕ) → ((k : ℕ) → k < n → f k ≡ g k) → written n f B ≡ written n g B
 unfolding written
-written-agree f g B zero h = refl
-written-agree f g B (suc n) h =
-    ap (λ (A : List ℕ). set A n (f n)) (written-agree f g B n (λ k l. h k (omega arith)))
+written_agree f g B zero h = refl
+written_agree f g B (suc n) h =
+    ap (λ (A : List ℕ). set A n (f n)) (written_agree f g B n (λ k l. h k (omega arith)))
     ∙ ap (λ (x : ℕ). set (written n g B) n x) (h n (omega arith))
 
 -- of numbers that were written over, only the later ones show
-pub written-again : (f g : ℕ → ℕ) (B : List ℕ) (n : ℕ) → n ≤ length B → written n g (written n f B) ≡ written n g B
-written-again f g B n room =
+pub written_again : (f g : ℕ → ℕ) (B : List ℕ) (n : ℕ) → n ≤ length B → written n g (written n f B) ≡ written n g B
+written_again f g B n room =
     written_is g B n (written n g (written n f B)) room (written-length g (written n f B) n ∙ same)
     (λ k l. written_at g (written n f B) n k l (omega (arith, same)))
     (λ k l. written-past g (written n f B) n k l ∙ written-past f B n k l)
@@ -69,4 +69,4 @@ written-again f g B n room =
 
 -- written a second time with the same numbers, it is the same
 pub written_same : (f : ℕ → ℕ) (B A : List ℕ) (n : ℕ) → n ≤ length B → A ≡ written n f B → A ≡ written n f A
-written_same f B A n room e = e ∙ sym (written-again f f B n room) ∙ ap (λ (x : List ℕ). written n f x) (sym e)
+written_same f B A n room e = e ∙ sym (written_again f f B n room) ∙ ap (λ (x : List ℕ). written n f x) (sym e)

@@ -3,14 +3,14 @@
 use mathlib.Core.Path.{◌≡◌, sym, ◌∙◌, ap}
 use mathlib.Core.Bool.{Bool, true, false, cond, ◌||◌}
 
-pub cond-true {ℓ} : {A : Type ℓ} {a r : Bool} (x y : A) → r ≡ a → r ≡ true → cond a x y ≡ x
-cond-true x y e t = ap (λ (b : Bool). cond b x y) (sym e ∙ t)
+pub cond_true {ℓ} : {A : Type ℓ} {a r : Bool} (x y : A) → r ≡ a → r ≡ true → cond a x y ≡ x
+cond_true x y e t = ap (λ (b : Bool). cond b x y) (sym e ∙ t)
 
-pub cond-false {ℓ} : {A : Type ℓ} {a r : Bool} (x y : A) → r ≡ a → r ≡ false → cond a x y ≡ y
-cond-false x y e t = ap (λ (b : Bool). cond b x y) (sym e ∙ t)
+pub cond_false {ℓ} : {A : Type ℓ} {a r : Bool} (x y : A) → r ≡ a → r ≡ false → cond a x y ≡ y
+cond_false x y e t = ap (λ (b : Bool). cond b x y) (sym e ∙ t)
 
-pub or-true : {a r : Bool} (b : Bool) → r ≡ a → r ≡ true → (a || b) ≡ true
-or-true b e t = ap (λ (x : Bool). x || b) (sym e ∙ t)
+pub or_true : {a r : Bool} (b : Bool) → r ≡ a → r ≡ true → (a || b) ≡ true
+or_true b e t = ap (λ (x : Bool). x || b) (sym e ∙ t)
 
-pub or-false : {a r : Bool} (b : Bool) → r ≡ a → r ≡ false → (a || b) ≡ b
-or-false b e t = ap (λ (x : Bool). x || b) (sym e ∙ t)
+pub or_false : {a r : Bool} (b : Bool) → r ≡ a → r ≡ false → (a || b) ≡ b
+or_false b e t = ap (λ (x : Bool). x || b) (sym e ∙ t)

@@ -6,36 +6,36 @@ use mathlib.Core.List.{List, [], ◌∷◌, ◌++◌}
 use lib.IntN.{pos}
 use Rattle.answers.specs.declared.Answer.{Answer}
 use Rattle.answers.specs.Numbers.{DONE}
-use Rattle.answers.specs.Limits.{maxFrame, maxPorts, Within}
-use Rattle.answers.specs.Answers.{Rule, doneWith, first}
-use Rattle.answers.specs.Sizes.{frameRules, frameAnswer, sizeRules, sizeAnswer}
+use Rattle.answers.specs.Limits.{max_frame, max_ports, Within}
+use Rattle.answers.specs.Answers.{Rule, done_with, first}
+use Rattle.answers.specs.Sizes.{frame_rules, frame_answer, size_rules, size_answer}
 use Rattle.answers.proofs.Ranges.{inside}
-use Rattle.answers.proofs.First.{refusal-passed-on, goes_on, none-of-them}
+use Rattle.answers.proofs.First.{refusal_passed_on, goes_on, none_of_them}
 
-module _ (M : ℕ) {a : Answer} (e : a ≡ frameAnswer M) where
-  pub frame_refused : (more : List Rule) (d : Answer) → (a.number ≡ DONE → ⊥) → a ≡ first (frameRules M ++ more) d
-  unfolding frameAnswer
-  frame_refused more d h = refusal-passed-on (frameRules M) more d a e h
+module _ (M : ℕ) {a : Answer} (e : a ≡ frame_answer M) where
+  pub frame_refused : (more : List Rule) (d : Answer) → (a.number ≡ DONE → ⊥) → a ≡ first (frame_rules M ++ more) d
+  unfolding frame_answer
+  frame_refused more d h = refusal_passed_on (frame_rules M) more d a e h
 
-  pub frame-passed : (more : List Rule) (d : Answer) → a.number ≡ DONE → first more d ≡ first (frameRules M ++ more) d
-  unfolding frameAnswer
-  frame-passed more d z = sym (goes_on (frameRules M) more d a e tt z)
+  pub frame_passed : (more : List Rule) (d : Answer) → a.number ≡ DONE → first more d ≡ first (frame_rules M ++ more) d
+  unfolding frame_answer
+  frame_passed more d z = sym (goes_on (frame_rules M) more d a e tt z)
 
-  pub frame-within : a.number ≡ DONE → Within 1 maxFrame M
-  unfolding frameAnswer
-  frame-within z = inside (none-of-them (frameRules M) [] (doneWith (pos 0)) a e tt z).0
+  pub frame_within : a.number ≡ DONE → Within 1 max_frame M
+  unfolding frame_answer
+  frame_within z = inside (none_of_them (frame_rules M) [] (done_with (pos 0)) a e tt z).0
 
-module _ (M N : ℕ) {a : Answer} (e : a ≡ sizeAnswer M N) where
-  pub sizes-refused : (more : List Rule) (d : Answer) → (a.number ≡ DONE → ⊥) → a ≡ first (sizeRules M N ++ more) d
-  unfolding sizeAnswer
-  sizes-refused more d h = refusal-passed-on (sizeRules M N) more d a e h
+module _ (M N : ℕ) {a : Answer} (e : a ≡ size_answer M N) where
+  pub sizes_refused : (more : List Rule) (d : Answer) → (a.number ≡ DONE → ⊥) → a ≡ first (size_rules M N ++ more) d
+  unfolding size_answer
+  sizes_refused more d h = refusal_passed_on (size_rules M N) more d a e h
 
-  pub sizes-passed : (more : List Rule) (d : Answer) → a.number ≡ DONE → first more d ≡ first (sizeRules M N ++ more) d
-  unfolding sizeAnswer
-  sizes-passed more d z = sym (goes_on (sizeRules M N) more d a e tt z)
+  pub sizes_passed : (more : List Rule) (d : Answer) → a.number ≡ DONE → first more d ≡ first (size_rules M N ++ more) d
+  unfolding size_answer
+  sizes_passed more d z = sym (goes_on (size_rules M N) more d a e tt z)
 
-  pub sizes-within : a.number ≡ DONE → Within 1 maxFrame M × Within 1 maxPorts N
-  unfolding sizeAnswer
-  sizes-within z =
-      let none = none-of-them (sizeRules M N) [] (doneWith (pos 0)) a e tt z in
+  pub sizes_within : a.number ≡ DONE → Within 1 max_frame M × Within 1 max_ports N
+  unfolding size_answer
+  sizes_within z =
+      let none = none_of_them (size_rules M N) [] (done_with (pos 0)) a e tt z in
       (inside none.0, inside none.1.0)

@@ -2,7 +2,7 @@
 use Rattle.std.specs.Prelude.{ℕ, Bool, cond, List, [], ◌∷◌, ℤ, pos, eqb}
 use Rattle.answers.specs.declared.Answer.{Answer}
 use Rattle.answers.specs.Numbers.{DONE}
-use Rattle.answers.specs.Lowest.{lowest, holdsSomewhere}
+use Rattle.answers.specs.Lowest.{lowest, holds_somewhere}
 
 -- the number, with its detail
 abbrev pub answer : ℕ → ℤ → Answer
@@ -13,12 +13,12 @@ abbrev pub refusal : ℕ → Answer
 refusal n = answer n (pos 0)
 
 -- done, with the value that the call gives
-abbrev pub doneWith : ℤ → Answer
-doneWith d = answer DONE d
+abbrev pub done_with : ℤ → Answer
+done_with d = answer DONE d
 
 -- the call is done
-abbrev pub isDone : Answer → Bool
-isDone a = eqb a.number DONE
+abbrev pub is_done : Answer → Bool
+is_done a = eqb a.number DONE
 
 -- a refusal, and whether its condition holds
 pub record Rule : Type 0 where
@@ -30,12 +30,12 @@ abbrev pub ◌when◌ : Answer → Bool → Rule
 a when t = record { refused = a; holds = t }
 
 -- the refusal that tells something, say a place, of the lowest of from, from + 1, .. (count of them) at which the test holds
-abbrev pub tellingOfLowest : ℕ → (ℕ → ℕ) → ℕ → ℕ → (ℕ → Bool) → Rule
-tellingOfLowest n told from count test = answer n (pos (told (lowest from count test))) when holdsSomewhere from count test
+abbrev pub telling_of_lowest : ℕ → (ℕ → ℕ) → ℕ → ℕ → (ℕ → Bool) → Rule
+telling_of_lowest n told from count test = answer n (pos (told (lowest from count test))) when holds_somewhere from count test
 
 -- the refusal that names it
-abbrev pub namingLowest : ℕ → ℕ → ℕ → (ℕ → Bool) → Rule
-namingLowest n from count test = tellingOfLowest n (λ k. k) from count test
+abbrev pub naming_lowest : ℕ → ℕ → ℕ → (ℕ → Bool) → Rule
+naming_lowest n from count test = telling_of_lowest n (λ k. k) from count test
 
 -- the first refusal whose condition holds, in the list's order; where none does, the answer given last
 abbrev pub first : List Rule → Answer → Answer

@@ -7,12 +7,12 @@ lowest from zero test = from
 lowest from (suc count) test = cond (test from) from (lowest (suc from) count test)
 
 -- the test holds at one of them
-abbrev pub holdsSomewhere : ℕ → ℕ → (ℕ → Bool) → Bool
-holdsSomewhere from count test = ltb (lowest from count test) (from + count)
+abbrev pub holds_somewhere : ℕ → ℕ → (ℕ → Bool) → Bool
+holds_somewhere from count test = ltb (lowest from count test) (from + count)
 
 -- k is the lowest of from, from + 1, .. (count of them) of which P is true
 pub record IsLowest (from count : ℕ) (P : ℕ → Type 0) (k : ℕ) : Type 0 where
   pub low : from ≤ k
   pub high : k < from + count
   pub there : P k
-  pub none-lower : (j : ℕ) → from ≤ j → j < k → P j → ⊥
+  pub none_lower : (j : ℕ) → from ≤ j → j < k → P j → ⊥

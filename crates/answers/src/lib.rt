@@ -1,8 +1,8 @@
 // The fixed list: what every call answers with, and the limits, each under one name.
 ghost use Rattle.std.specs.Prelude.{◌≡◌, ◌<◌, pos, nat_abs};
-ghost use Rattle.answers.specs.Answers.{refusal, answer, doneWith};
-ghost use Rattle.answers.specs.Limits.{maxDetail, outside};
-ghost use Rattle.answers.specs.Sizes.{frameAnswer, sizeAnswer};
+ghost use Rattle.answers.specs.Answers.{refusal, answer, done_with};
+ghost use Rattle.answers.specs.Limits.{max_detail, outside};
+ghost use Rattle.answers.specs.Sizes.{frame_answer, size_answer};
 
 // A number of the list and its detail; the detail is 0 where the list names none.
 #[repr(C)]
@@ -113,7 +113,7 @@ pub fn refusal(number: u32) -> Answer
 
 // The answer of a call that is done and gives no value.
 pub fn done() -> Answer
-    ensures { result ≡ doneWith (pos 0) }
+    ensures { result ≡ done_with (pos 0) }
 {
     refusal(DONE)
 }
@@ -127,7 +127,7 @@ pub fn detailed(number: u32, detail: i32) -> Answer
 
 // An answer that names a flow, a port, a place or a count.
 pub fn naming(number: u32, detail: usize) -> Answer
-    requires { detail < maxDetail }
+    requires { detail < max_detail }
     ensures { result ≡ answer number (pos detail) }
 {
     Answer {
@@ -148,7 +148,7 @@ pub fn outside(low: usize, high: usize, x: usize) -> bool
 
 // Refusal 1, or done.
 pub fn frame_answer(frame: usize) -> Answer
-    ensures { result ≡ frameAnswer frame }
+    ensures { result ≡ frame_answer frame }
 {
     if outside(1, MAX_FRAME, frame) {
         return refusal(FRAME_OUT_OF_RANGE);
@@ -158,7 +158,7 @@ pub fn frame_answer(frame: usize) -> Answer
 
 // Refusals 1 and 2, or done.
 pub fn size_answer(frame: usize, ports: usize) -> Answer
-    ensures { result ≡ sizeAnswer frame ports }
+    ensures { result ≡ size_answer frame ports }
 {
     let framed = frame_answer(frame);
     if framed.number != DONE {

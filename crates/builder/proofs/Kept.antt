@@ -10,9 +10,9 @@ use lib.Dec.{eqb}
 use lib.ListN.{length, set}
 use lib.Seq.{get_or-set_same}
 use Rattle.answers.specs.Sums.{sum, one}
-use Rattle.answers.proofs.Sums.{sum-agree, sum-change, sum-exchange}
+use Rattle.answers.proofs.Sums.{sum_agree, sum_change, sum_exchange}
 use Rattle.tables.specs.Accepted.{entry, times}
-use Rattle.builder.proofs.Places.{in_table, stored-else}
+use Rattle.builder.proofs.Places.{in_table, stored_else}
 use Rattle.builder.proofs.Alternation.{RowExchanged, Exchanged}
 
 module _ (M N p q : ℕ) (T T' : List ℕ) (lp : p < M) (lq : q < M) (x : Exchanged M N p q T T') where
@@ -29,9 +29,9 @@ module _ (M N p q : ℕ) (T T' : List ℕ) (lp : p < M) (lq : q < M) (x : Exchan
       go (no c) (yes e) (inr k) = subst P (sym (ap (λ (t : ℕ). entry M T' r t) e ∙ k.1)) (h p lp)
       go (no c) (no d) k = subst P (sym (x.others r s ls c d)) (h s ls)
 
-  pub times-kept : (k : ℕ) → times M N T' k ≡ times M N T k
+  pub times_kept : (k : ℕ) → times M N T' k ≡ times M N T k
   unfolding times
-  times-kept k = sum-agree N _ (λ r. sum M (λ s. one (eqb (entry M T r s) k))) (λ r lr. row r (ℕ_discrete p q) (x.rows r lr))
+  times_kept k = sum_agree N _ (λ r. sum M (λ s. one (eqb (entry M T r s) k))) (λ r lr. row r (ℕ_discrete p q) (x.rows r lr))
     where
       at : ℕ → ℕ → ℕ
       at r s = one (eqb (entry M T r s) k)
@@ -43,7 +43,7 @@ module _ (M N p q : ℕ) (T T' : List ℕ) (lp : p < M) (lq : q < M) (x : Exchan
       there r s e = ap (λ (z : ℕ). one (eqb z k)) e
 
       stay : (r : ℕ) → entry M T' r p ≡ entry M T r p → entry M T' r q ≡ entry M T r q → sum M (at' r) ≡ sum M (at r)
-      stay r e f = sum-agree M (at' r) (at r) (λ s ls. slot s ls (ℕ_discrete s p) (ℕ_discrete s q))
+      stay r e f = sum_agree M (at' r) (at r) (λ s ls. slot s ls (ℕ_discrete s p) (ℕ_discrete s q))
         where
           slot : (s : ℕ) → s < M → Dec (s ≡ p) → Dec (s ≡ q) → at' r s ≡ at r s
           slot s ls (yes i) d = ap (at' r) i ∙ there r p e ∙ sym (ap (at r) i)
@@ -56,18 +56,18 @@ module _ (M N p q : ℕ) (T T' : List ℕ) (lp : p < M) (lq : q < M) (x : Exchan
       row r d (inl h) = stay r h.0 h.1
       row r (yes e) (inr h) = stay r (h.0 ∙ sym (ap (λ (s : ℕ). entry M T r s) e)) (h.1 ∙ ap (λ (s : ℕ). entry M T r s) e)
       row r (no d) (inr h) =
-          sum-exchange M (at' r) (at r) p q lp lq d (sym (there r q h.1)) (sym (there r p h.0)) (λ s ls c d'. there r s (x.others r s ls c d'))
+          sum_exchange M (at' r) (at r) p q lp lq d (sym (there r q h.1)) (sym (there r p h.0)) (λ s ls c d'. there r s (x.others r s ls c d'))
 
 -- a store changes the count of what it puts in the place, and of what stood there
-pub times-stored : (M N : ℕ) (T : List ℕ) (r s v k : ℕ) → r < N → s < M → N * M ≤ length T
+pub times_stored : (M N : ℕ) (T : List ℕ) (r s v k : ℕ) → r < N → s < M → N * M ≤ length T
     → times M N (set T (r * M + s) v) k + one (eqb (entry M T r s) k) ≡ times M N T k + one (eqb v k)
 unfolding times
-times-stored M N T r s v k lr ls len =
+times_stored M N T r s v k lr ls len =
     omega (
       arith,
-      sum-change N (λ a. sum M (at a)) (λ a. sum M (at' a)) r lr
-          (λ a la d. sum-agree M (at a) (at' a) (λ t lt. ap (λ (z : ℕ). one (eqb z k)) (sym (stored-else M T a t r s v lt ls (λ e _. d e))))),
-      sum-change M (at r) (at' r) s ls (λ t lt d. ap (λ (z : ℕ). one (eqb z k)) (sym (stored-else M T r t r s v lt ls (λ _ e. d e)))),
+      sum_change N (λ a. sum M (at a)) (λ a. sum M (at' a)) r lr
+          (λ a la d. sum_agree M (at a) (at' a) (λ t lt. ap (λ (z : ℕ). one (eqb z k)) (sym (stored_else M T a t r s v lt ls (λ e _. d e))))),
+      sum_change M (at r) (at' r) s ls (λ t lt d. ap (λ (z : ℕ). one (eqb z k)) (sym (stored_else M T r t r s v lt ls (λ _ e. d e)))),
       ap (λ (z : ℕ). one (eqb z k)) (get_or-set_same T (r * M + s) v 0 (in_table T len lr ls)),
     )
   where

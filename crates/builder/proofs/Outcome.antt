@@ -9,113 +9,113 @@ use lib.ListN.{length, drop, length-replicate}
 use lib.IntN.{pos}
 use lib.Dec.{ltb}
 use Rattle.answers.specs.declared.Answer.{Answer}
-use Rattle.answers.specs.Numbers.{DONE, INPUT-OVERLOADED, OUTPUT-OVERLOADED, TABLE-TOO-SHORT}
-use Rattle.answers.specs.Limits.{maxFrame, maxPorts}
-use Rattle.answers.specs.Answers.{answer, refusal, doneWith, first}
+use Rattle.answers.specs.Numbers.{DONE, INPUT_OVERLOADED, OUTPUT_OVERLOADED, TABLE_TOO_SHORT}
+use Rattle.answers.specs.Limits.{max_frame, max_ports}
+use Rattle.answers.specs.Answers.{answer, refusal, done_with, first}
 use Rattle.answers.specs.Lowest.{lowest}
-use Rattle.answers.proofs.Lowest.{somewhere-false}
-use Rattle.answers.proofs.First.{NoneHolds, lowest-named, lowest-passed, refusal-passed-on, goes_on, none-of-them}
-use Rattle.flows.specs.Flows.{flowCount, listRules, listAnswer, inputOverloaded, outputOverloaded, Fitting}
+use Rattle.answers.proofs.Lowest.{somewhere_false}
+use Rattle.answers.proofs.First.{NoneHolds, lowest_named, lowest_passed, refusal_passed_on, goes_on, none_of_them}
+use Rattle.flows.specs.Flows.{flow_count, list_rules, list_answer, input_overloaded, output_overloaded, Fitting}
 use Rattle.flows.proofs.Shape.{listed}
-use Rattle.tables.proofs.Places.{size-bound}
+use Rattle.tables.proofs.Places.{size_bound}
 use Rattle.builder.specs.InputMarks.{Marked}
-use Rattle.builder.specs.Build.{loadRules, loadAnswer, buildAnswer, Built}
+use Rattle.builder.specs.Build.{load_rules, load_answer, build_answer, Built}
 use Rattle.builder.specs.Filling.{emptied, SoFar, MayFill, FilledTo}
-use Rattle.builder.proofs.Placing.{noMarks, no-mark}
+use Rattle.builder.proofs.Placing.{no_marks, no_mark}
 use Rattle.builder.proofs.Remarking.{marked_empty}
-use Rattle.builder.proofs.Progress.{empty-so-far, emptied-entries, emptied-beyond, whole-so-far}
+use Rattle.builder.proofs.Progress.{empty_so_far, emptied_entries, emptied_beyond, whole_so_far}
 
-module _ (M N : ℕ) (L : List ℕ) (len i : ℕ) (ei : i ≡ lowest 1 N (inputOverloaded M L)) where
-  pub input-refused : i ≤ N → answer INPUT-OVERLOADED (pos i) ≡ loadAnswer M N L len
-  unfolding loadAnswer
-  input-refused u = lowest-named 1 N (inputOverloaded M L) i ei INPUT-OVERLOADED _ (omega arith)
+module _ (M N : ℕ) (L : List ℕ) (len i : ℕ) (ei : i ≡ lowest 1 N (input_overloaded M L)) where
+  pub input_refused : i ≤ N → answer INPUT_OVERLOADED (pos i) ≡ load_answer M N L len
+  unfolding load_answer
+  input_refused u = lowest_named 1 N (input_overloaded M L) i ei INPUT_OVERLOADED _ (omega arith)
 
-  module _ (passed : N < i) (o : ℕ) (eo : o ≡ lowest 1 N (outputOverloaded M L)) where
-    pub output-refused : o ≤ N → answer OUTPUT-OVERLOADED (pos o) ≡ loadAnswer M N L len
-    unfolding loadAnswer
-    output-refused u =
-        lowest-named 1 N (outputOverloaded M L) o eo OUTPUT-OVERLOADED _ (omega arith)
-        ∙ lowest-passed 1 N (inputOverloaded M L) i ei _ _ (omega arith)
+  module _ (passed : N < i) (o : ℕ) (eo : o ≡ lowest 1 N (output_overloaded M L)) where
+    pub output_refused : o ≤ N → answer OUTPUT_OVERLOADED (pos o) ≡ load_answer M N L len
+    unfolding load_answer
+    output_refused u =
+        lowest_named 1 N (output_overloaded M L) o eo OUTPUT_OVERLOADED _ (omega arith)
+        ∙ lowest_passed 1 N (input_overloaded M L) i ei _ _ (omega arith)
 
     module _ (passed-too : N < o) where
-      by_length : (b : Bool) → ltb len (N * M) ≡ b → cond b (refusal TABLE-TOO-SHORT) (doneWith (pos 0)) ≡ loadAnswer M N L len
-      unfolding loadAnswer
+      by_length : (b : Bool) → ltb len (N * M) ≡ b → cond b (refusal TABLE_TOO_SHORT) (done_with (pos 0)) ≡ load_answer M N L len
+      unfolding load_answer
       by_length b e =
-          sym (ap (λ (t : Bool). cond t (refusal TABLE-TOO-SHORT) (doneWith (pos 0))) e)
-          ∙ lowest-passed 1 N (outputOverloaded M L) o eo _ _ (omega arith)
-          ∙ lowest-passed 1 N (inputOverloaded M L) i ei _ _ (omega arith)
+          sym (ap (λ (t : Bool). cond t (refusal TABLE_TOO_SHORT) (done_with (pos 0))) e)
+          ∙ lowest_passed 1 N (output_overloaded M L) o eo _ _ (omega arith)
+          ∙ lowest_passed 1 N (input_overloaded M L) i ei _ _ (omega arith)
 
-      pub length-refused : len < N * M → refusal TABLE-TOO-SHORT ≡ loadAnswer M N L len
-      length-refused u = by_length _ (lt-ltb len (N * M) u)
+      pub length_refused : len < N * M → refusal TABLE_TOO_SHORT ≡ load_answer M N L len
+      length_refused u = by_length _ (lt-ltb len (N * M) u)
 
-      pub loads-done : N * M ≤ len → doneWith (pos 0) ≡ loadAnswer M N L len
-      loads-done u = by_length _ (le-ltb len (N * M) u)
+      pub loads_done : N * M ≤ len → done_with (pos 0) ≡ load_answer M N L len
+      loads_done u = by_length _ (le-ltb len (N * M) u)
 
 -- no load is refused and the table is not too short exactly where every load fits and the table is long enough
-none-due : (M N : ℕ) (L : List ℕ) (len : ℕ) → NoneHolds (loadRules M N L len) → Fitting M N L × (N * M ≤ len)
-none-due M N L len none = (
+none_due : (M N : ℕ) (L : List ℕ) (len : ℕ) → NoneHolds (load_rules M N L len) → Fitting M N L × (N * M ≤ len)
+none_due M N L len none = (
   record {
-    inputs-fit = λ i w. ltb-false _ _ (somewhere-false 1 N (inputOverloaded M L) none.0 i w.at_least (omega (arith, w.at_most)));
-    outputs-fit = λ j w. ltb-false _ _ (somewhere-false 1 N (outputOverloaded M L) none.1.0 j w.at_least (omega (arith, w.at_most)));
+    inputs_fit = λ i w. ltb-false _ _ (somewhere_false 1 N (input_overloaded M L) none.0 i w.at_least (omega (arith, w.at_most)));
+    outputs_fit = λ j w. ltb-false _ _ (somewhere_false 1 N (output_overloaded M L) none.1.0 j w.at_least (omega (arith, w.at_most)));
   },
   ltb-false len (N * M) none.1.1.0,
 )
 
-loads-fit : (M N : ℕ) (L : List ℕ) (len : ℕ) (b : Answer) → b ≡ loadAnswer M N L len → b.number ≡ DONE → Fitting M N L × (N * M ≤ len)
-unfolding loadAnswer
-loads-fit M N L len b e d = none-due M N L len (none-of-them (loadRules M N L len) [] (doneWith (pos 0)) b e tt d)
+loads_fit : (M N : ℕ) (L : List ℕ) (len : ℕ) (b : Answer) → b ≡ load_answer M N L len → b.number ≡ DONE → Fitting M N L × (N * M ≤ len)
+unfolding load_answer
+loads_fit M N L len b e d = none_due M N L len (none_of_them (load_rules M N L len) [] (done_with (pos 0)) b e tt d)
 
-module _ (M N : ℕ) (L T : List ℕ) (a : Answer) (e : a ≡ listAnswer M N L) where
-  pub refused-by-list : (a.number ≡ DONE → ⊥) → Built M N L T T a
-  unfolding listAnswer buildAnswer
-  refused-by-list h =
+module _ (M N : ℕ) (L T : List ℕ) (a : Answer) (e : a ≡ list_answer M N L) where
+  pub refused_by_list : (a.number ≡ DONE → ⊥) → Built M N L T T a
+  unfolding list_answer build_answer
+  refused_by_list h =
       record {
-        answered = refusal-passed-on (listRules M N L) (loadRules M N L (length T)) (doneWith (pos 0)) a e h;
-        refused-leaves = λ _. refl;
+        answered = refusal_passed_on (list_rules M N L) (load_rules M N L (length T)) (done_with (pos 0)) a e h;
+        refused_leaves = λ _. refl;
         accepted = λ d. absurd (h d);
         beyond = refl;
       }
 
-  module _ (d : a.number ≡ DONE) (b : Answer) (f : b ≡ loadAnswer M N L (length T)) where
-    on : b ≡ buildAnswer M N L (length T)
-    unfolding listAnswer buildAnswer loadAnswer
-    on = f ∙ sym (goes_on (listRules M N L) (loadRules M N L (length T)) (doneWith (pos 0)) a e tt d)
+  module _ (d : a.number ≡ DONE) (b : Answer) (f : b ≡ load_answer M N L (length T)) where
+    on : b ≡ build_answer M N L (length T)
+    unfolding list_answer build_answer load_answer
+    on = f ∙ sym (goes_on (list_rules M N L) (load_rules M N L (length T)) (done_with (pos 0)) a e tt d)
 
-    pub refused-by-loads : (b.number ≡ DONE → ⊥) → Built M N L T T b
-    refused-by-loads h = record { answered = on; refused-leaves = λ _. refl; accepted = λ x. absurd (h x); beyond = refl }
+    pub refused_by_loads : (b.number ≡ DONE → ⊥) → Built M N L T T b
+    refused_by_loads h = record { answered = on; refused_leaves = λ _. refl; accepted = λ x. absurd (h x); beyond = refl }
 
     module _ (g : b.number ≡ DONE) where
-      pub may-fill : MayFill M N L T
-      may-fill =
+      pub may_fill : MayFill M N L T
+      may_fill =
           let r = listed M N L a e d in
-          let w = loads-fit M N L (length T) b f g in
+          let w = loads_fit M N L (length T) b f g in
           record {
-            table = record { frame-in-range = r.frame-in-range; ports-in-range = r.ports-in-range; long-enough = w.1 };
-            good = r.good-list;
+            table = record { frame_in_range = r.frame_in_range; ports_in_range = r.ports_in_range; long_enough = w.1 };
+            good = r.good_list;
             fitting = w.0;
           }
 
       -- the emptied table is where the filling starts, and the filled table is what is built
       pub emptied-start : (T' : List ℕ) → T' ≡ emptied T (N * M) → SoFar M N L 1 0 T'
-      emptied-start T' x = subst (λ (t : List ℕ). SoFar M N L 1 0 t) (sym x) (empty-so-far M N L (emptied T (N * M)) (emptied-entries M N T))
+      emptied-start T' x = subst (λ (t : List ℕ). SoFar M N L 1 0 t) (sym x) (empty_so_far M N L (emptied T (N * M)) (emptied_entries M N T))
 
-      pub built : (T' T'' U : List ℕ) → T' ≡ emptied T (N * M) → FilledTo M N L (suc (flowCount L)) 0 T' T'' U → Built M N L T T'' b
+      pub built : (T' T'' U : List ℕ) → T' ≡ emptied T (N * M) → FilledTo M N L (suc (flow_count L)) 0 T' T'' U → Built M N L T T'' b
       built T' T'' U y z =
           record {
             answered = on;
-            refused-leaves = λ h. absurd (h g);
-            accepted = λ _. whole-so-far M N L T'' (suc (flowCount L)) 0 (omega arith) z.so_far;
-            beyond = z.beyond ∙ ap (λ (t : List ℕ). drop (N * M) t) y ∙ emptied-beyond T (N * M);
+            refused_leaves = λ h. absurd (h g);
+            accepted = λ _. whole_so_far M N L T'' (suc (flow_count L)) 0 (omega arith) z.so_far;
+            beyond = z.beyond ∙ ap (λ (t : List ℕ). drop (N * M) t) y ∙ emptied_beyond T (N * M);
           }
 
-      pub emptied-marked : (T' : List ℕ) → T' ≡ emptied T (N * M) → Marked M N L T' (noMarks (maxPorts * maxFrame))
+      pub emptied-marked : (T' : List ℕ) → T' ≡ emptied T (N * M) → Marked M N L T' (no_marks (max_ports * max_frame))
       emptied-marked T' x =
-          let h = may-fill.table in
-          subst (λ (t : List ℕ). Marked M N L t (noMarks (maxPorts * maxFrame))) (sym x)
-          (marked_empty M N L (emptied T (N * M)) (noMarks (maxPorts * maxFrame))
+          let h = may_fill.table in
+          subst (λ (t : List ℕ). Marked M N L t (no_marks (max_ports * max_frame))) (sym x)
+          (marked_empty M N L (emptied T (N * M)) (no_marks (max_ports * max_frame))
           (record {
-            frame-in-range = h.frame-in-range;
-            ports-in-range = h.ports-in-range;
-            long-enough = omega (arith, size-bound h, length-replicate {A = ℕ} (maxPorts * maxFrame) 0);
+            frame_in_range = h.frame_in_range;
+            ports_in_range = h.ports_in_range;
+            long_enough = omega (arith, size_bound h, length-replicate {A = ℕ} (max_ports * max_frame) 0);
           })
-          (emptied-entries M N T) (λ r s. no-mark (maxPorts * maxFrame) (r * M + s)))
+          (emptied_entries M N T) (λ r s. no_mark (max_ports * max_frame) (r * M + s)))

@@ -12,99 +12,99 @@ use lib.Dec.{eqb}
 use lib.ListN.{length, drop, replicate, length-replicate, get_or-replicate, get_or-append}
 use lib.Seq.{drop_at}
 use Rattle.answers.specs.Sums.{sum, one}
-use Rattle.answers.proofs.Sums.{sum-zero}
-use Rattle.flows.specs.Flows.{flowCount, IsFlow, input_of, outputOf, cells_of, inputLoad, outputLoad, GoodList, Fitting}
+use Rattle.answers.proofs.Sums.{sum_zero}
+use Rattle.flows.specs.Flows.{flow_count, IsFlow, input_of, output_of, cells_of, input_load, output_load, GoodList, Fitting}
 use Rattle.tables.specs.Accepted.{entry, times, Accepted}
-use Rattle.builder.specs.AddCell.{withCells, oneMore, SameFlows, PortsInRange, MayAdd, CellAdded}
+use Rattle.builder.specs.AddCell.{with_cells, one_cell_more, SameFlows, PortsInRange, MayAdd, CellAdded}
 use Rattle.builder.specs.InputMarks.{Marked}
 use Rattle.builder.specs.Filling.{emptied, SoFar, MayFill, FilledTo}
 use Rattle.builder.proofs.Places.{holds_same}
-use Rattle.builder.proofs.Loads.{input-less, output-less}
-use Rattle.builder.proofs.SameFlows.{same_self, same_back, same-on, with-cells-same, with-cells-there, with-cells-else, is-flow-same}
-use Rattle.builder.proofs.SameFlows.{placed_of, accepted-of, placed_same}
+use Rattle.builder.proofs.Loads.{input_less, output_less}
+use Rattle.builder.proofs.SameFlows.{same_self, same_back, same_on, with_cells_same, with_cells_there, with_cells_else, is_flow_same}
+use Rattle.builder.proofs.SameFlows.{placed_of, accepted_of, placed_same}
 
 -- the list with no cells for its first n flows
 cleared : ℕ → List ℕ → List ℕ
 cleared zero L = L
-cleared (suc n) L = withCells (cleared n L) (suc n) 0
+cleared (suc n) L = with_cells (cleared n L) (suc n) 0
 
-cleared-same : (n : ℕ) (L : List ℕ) → SameFlows L (cleared n L)
+cleared_same : (n : ℕ) (L : List ℕ) → SameFlows L (cleared n L)
 unfolding cleared
-cleared-same zero L = same_self L
-cleared-same (suc n) L = same-on (cleared-same n L) (with-cells-same (cleared n L) (suc n) 0)
+cleared_same zero L = same_self L
+cleared_same (suc n) L = same_on (cleared_same n L) (with_cells_same (cleared n L) (suc n) 0)
 
-cleared-none : (n : ℕ) (L : List ℕ) → n ≤ flowCount L → (x : ℕ) → 1 ≤ x → x ≤ n → cells_of (cleared n L) x ≡ 0
+cleared_none : (n : ℕ) (L : List ℕ) → n ≤ flow_count L → (x : ℕ) → 1 ≤ x → x ≤ n → cells_of (cleared n L) x ≡ 0
 unfolding cleared
-cleared-none zero L h x l u = absurd (omega arith)
-cleared-none (suc n) L h x l u = go (ℕ_discrete x (suc n)) (λ v. cleared-none n L (omega arith) x l v)
+cleared_none zero L h x l u = absurd (omega arith)
+cleared_none (suc n) L h x l u = go (ℕ_discrete x (suc n)) (λ v. cleared_none n L (omega arith) x l v)
   where
     flow : IsFlow (cleared n L) (suc n)
-    flow = is-flow-same (same_back (cleared-same n L)) (suc n) (record { at_least = omega arith; at_most = h })
+    flow = is_flow_same (same_back (cleared_same n L)) (suc n) (record { at_least = omega arith; at_most = h })
 
-    go : Dec (x ≡ suc n) → (x ≤ n → cells_of (cleared n L) x ≡ 0) → cells_of (withCells (cleared n L) (suc n) 0) x ≡ 0
-    go (yes e) before = ap (λ (y : ℕ). cells_of (withCells (cleared n L) (suc n) 0) y) e ∙ with-cells-there (cleared n L) (suc n) 0 flow
-    go (no d) before = with-cells-else (cleared n L) (suc n) 0 x flow l d ∙ before (omega arith)
+    go : Dec (x ≡ suc n) → (x ≤ n → cells_of (cleared n L) x ≡ 0) → cells_of (with_cells (cleared n L) (suc n) 0) x ≡ 0
+    go (yes e) before = ap (λ (y : ℕ). cells_of (with_cells (cleared n L) (suc n) 0) y) e ∙ with_cells_there (cleared n L) (suc n) 0 flow
+    go (no d) before = with_cells_else (cleared n L) (suc n) 0 x flow l d ∙ before (omega arith)
 
 -- an empty table is accepted for a list without cells
-pub empty-so-far : (M N : ℕ) (L T : List ℕ) → ((r s : ℕ) → r < N → s < M → entry M T r s ≡ 0) → SoFar M N L 1 0 T
+pub empty_so_far : (M N : ℕ) (L T : List ℕ) → ((r s : ℕ) → r < N → s < M → entry M T r s ≡ 0) → SoFar M N L 1 0 T
 unfolding times
-empty-so-far M N L T empty =
+empty_so_far M N L T empty =
     record {
-      held = cleared (flowCount L) L;
-      same-flows = cleared-same (flowCount L) L;
+      held = cleared (flow_count L) L;
+      same_flows = cleared_same (flow_count L) L;
       accepted =
           record {
-            of-its-row = λ r s lr ls. inl (empty r s lr ls);
-            input-once = λ s a b ls la lb d x y e. x (empty a s la ls);
-            exact-counts = λ k f. none k (is-flow-same (cleared-same (flowCount L) L) k f) ∙ sym (no_cells k (is-flow-same (cleared-same (flowCount L) L) k f));
+            of_its_row = λ r s lr ls. inl (empty r s lr ls);
+            input_once = λ s a b ls la lb d x y e. x (empty a s la ls);
+            exact_counts = λ k f. none k (is_flow_same (cleared_same (flow_count L) L) k f) ∙ sym (no_cells k (is_flow_same (cleared_same (flow_count L) L) k f));
           };
       earlier = λ x f u. absurd (omega (arith, f.at_least));
       this = no_cells 1;
       later = λ x f u. no_cells x f;
     }
   where
-    no_cells : (x : ℕ) → IsFlow L x → cells_of (cleared (flowCount L) L) x ≡ 0
-    no_cells x f = cleared-none (flowCount L) L (omega arith) x f.at_least f.at_most
+    no_cells : (x : ℕ) → IsFlow L x → cells_of (cleared (flow_count L) L) x ≡ 0
+    no_cells x f = cleared_none (flow_count L) L (omega arith) x f.at_least f.at_most
 
     none : (k : ℕ) → IsFlow L k → sum N (λ r. sum M (λ s. one (eqb (entry M T r s) k))) ≡ 0
     none k f =
-        sum-zero N _ (λ r lr. sum-zero M _ (λ s ls. ap one (ne_eqb (entry M T r s) k (λ e. omega (arith, f.at_least, empty r s lr ls)))))
+        sum_zero N _ (λ r lr. sum_zero M _ (λ s ls. ap one (ne_eqb (entry M T r s) k (λ e. omega (arith, f.at_least, empty r s lr ls)))))
 
-pub emptied-entries : (M N : ℕ) (T : List ℕ) (r s : ℕ) → r < N → s < M → entry M (emptied T (N * M)) r s ≡ 0
-emptied-entries M N T r s lr ls =
+pub emptied_entries : (M N : ℕ) (T : List ℕ) (r s : ℕ) → r < N → s < M → entry M (emptied T (N * M)) r s ≡ 0
+emptied_entries M N T r s lr ls =
     get_or-append (replicate {A = ℕ} (N * M) 0) (drop (N * M) T) 0 (r * M + s) (omega (arith, length-replicate {A = ℕ} (N * M) 0, digits_lt lr ls))
     ∙ get_or-replicate (N * M) (r * M + s) 0 0 (digits_lt lr ls)
 
-pub emptied-beyond : (T : List ℕ) (end : ℕ) → drop end (emptied T end) ≡ drop end T
-emptied-beyond T end = drop_at (replicate {A = ℕ} end 0) (drop end T) end (length-replicate {A = ℕ} end 0)
+pub emptied_beyond : (T : List ℕ) (end : ℕ) → drop end (emptied T end) ≡ drop end T
+emptied_beyond T end = drop_at (replicate {A = ℕ} end 0) (drop end T) end (length-replicate {A = ℕ} end 0)
 
 module _ (M N : ℕ) (L : List ℕ) (k : ℕ) (flow : IsFlow L k) where
   -- a cell of flow k that is not yet placed finds both its ends with room, and is placed
-  pub cell-so-far : PortsInRange N L → Fitting M N L → (c : ℕ) (T T' : List ℕ) → c < cells_of L k → SoFar M N L k c T
-      → ((L' : List ℕ) → SameFlows L L' → Accepted M N L' T → inputLoad L' (input_of L' k) < M
-      → outputLoad L' (outputOf L' k) < M → Accepted M N (oneMore L' k) T')
+  pub cell_so_far : PortsInRange N L → Fitting M N L → (c : ℕ) (T T' : List ℕ) → c < cells_of L k → SoFar M N L k c T
+      → ((L' : List ℕ) → SameFlows L L' → Accepted M N L' T → input_load L' (input_of L' k) < M
+      → output_load L' (output_of L' k) < M → Accepted M N (one_cell_more L' k) T')
       → SoFar M N L k (suc c) T'
-  cell-so-far ports fit c T T' more s add =
+  cell_so_far ports fit c T T' more s add =
       record {
-        held = oneMore L' k;
-        same-flows = same-on same (with-cells-same L' k (suc (cells_of L' k)));
+        held = one_cell_more L' k;
+        same_flows = same_on same (with_cells_same L' k (suc (cells_of L' k)));
         accepted =
             add L' same s.accepted
-            (omega (arith, input-less L L' same k flow no_more less, fit.inputs-fit (input_of L k) (ports.inputs k flow)))
-            (omega (arith, output-less L L' same k flow no_more less, fit.outputs-fit (outputOf L k) (ports.outputs k flow)));
-        earlier = λ x f u. with-cells-else L' k (suc (cells_of L' k)) x flow' f.at_least (λ e. omega arith) ∙ s.earlier x f u;
-        this = λ _. with-cells-there L' k (suc (cells_of L' k)) flow' ∙ ap suc (s.this flow);
-        later = λ x f u. with-cells-else L' k (suc (cells_of L' k)) x flow' f.at_least (λ e. omega arith) ∙ s.later x f u;
+            (omega (arith, input_less L L' same k flow no_more less, fit.inputs_fit (input_of L k) (ports.inputs k flow)))
+            (omega (arith, output_less L L' same k flow no_more less, fit.outputs_fit (output_of L k) (ports.outputs k flow)));
+        earlier = λ x f u. with_cells_else L' k (suc (cells_of L' k)) x flow' f.at_least (λ e. omega arith) ∙ s.earlier x f u;
+        this = λ _. with_cells_there L' k (suc (cells_of L' k)) flow' ∙ ap suc (s.this flow);
+        later = λ x f u. with_cells_else L' k (suc (cells_of L' k)) x flow' f.at_least (λ e. omega arith) ∙ s.later x f u;
       }
     where
       L' : List ℕ
       L' = s.held
 
       same : SameFlows L L'
-      same = s.same-flows
+      same = s.same_flows
 
       flow' : IsFlow L' k
-      flow' = is-flow-same (same_back same) k flow
+      flow' = is_flow_same (same_back same) k flow
 
       less : cells_of L' k < cells_of L k
       less = omega (arith, s.this flow)
@@ -120,11 +120,11 @@ module _ (M N : ℕ) (L : List ℕ) (k : ℕ) (flow : IsFlow L k) where
               omega (arith, less, ap (λ (y : ℕ). cells_of L' y) e, ap (λ (y : ℕ). cells_of L y) e)
 
   -- with all its cells placed, the next flow's turn has come
-  pub flow-so-far : (T : List ℕ) → SoFar M N L k (cells_of L k) T → SoFar M N L (suc k) 0 T
-  flow-so-far T s =
+  pub flow_so_far : (T : List ℕ) → SoFar M N L k (cells_of L k) T → SoFar M N L (suc k) 0 T
+  flow_so_far T s =
       record {
         held = s.held;
-        same-flows = s.same-flows;
+        same_flows = s.same_flows;
         accepted = s.accepted;
         earlier = λ x f u. go x f (ℕ_discrete x k) u;
         this = λ f. s.later (suc k) f (omega arith);
@@ -136,21 +136,21 @@ module _ (M N : ℕ) (L : List ℕ) (k : ℕ) (flow : IsFlow L k) where
       go x f (no d) u = s.earlier x f (omega arith)
 
 -- with all flows placed, the table is accepted for the list
-pub whole-so-far : (M N : ℕ) (L T : List ℕ) (k c : ℕ) → flowCount L < k → SoFar M N L k c T → Accepted M N L T
-whole-so-far M N L T k c past s =
-    accepted-of (placed_same s.same-flows (placed_of s.accepted))
-    (λ x f. s.accepted.exact-counts x (is-flow-same (same_back s.same-flows) x f) ∙ s.earlier x f (omega (arith, f.at_most)))
+pub whole_so_far : (M N : ℕ) (L T : List ℕ) (k c : ℕ) → flow_count L < k → SoFar M N L k c T → Accepted M N L T
+whole_so_far M N L T k c past s =
+    accepted_of (placed_same s.same_flows (placed_of s.accepted))
+    (λ x f. s.accepted.exact_counts x (is_flow_same (same_back s.same_flows) x f) ∙ s.earlier x f (omega (arith, f.at_most)))
 
 -- what a good list says of its ports
-pub good-ports : {M N : ℕ} {L : List ℕ} → GoodList M N L → PortsInRange N L
-good-ports g = record { inputs = g.inputs; outputs = g.outputs }
+pub good_ports : {M N : ℕ} {L : List ℕ} → GoodList M N L → PortsInRange N L
+good_ports g = record { inputs = g.inputs; outputs = g.outputs }
 
 -- the same, as the code goes: with the bytes past the table as they were
-pub may-fill-same : {M N : ℕ} {L T T' : List ℕ} → MayFill M N L T → length T' ≡ length T → MayFill M N L T'
-may-fill-same {T' = T'} may e = record { table = holds_same T' may.table e; good = may.good; fitting = may.fitting }
+pub may_fill_same : {M N : ℕ} {L T T' : List ℕ} → MayFill M N L T → length T' ≡ length T → MayFill M N L T'
+may_fill_same {T' = T'} may e = record { table = holds_same T' may.table e; good = may.good; fitting = may.fitting }
 
 pub may_add : {M N : ℕ} {L : List ℕ} {k : ℕ} {T : List ℕ} → MayFill M N L T → IsFlow L k → MayAdd M N L k T
-may_add may flow = record { table = may.table; ports = good-ports may.good; not-too-many = may.good.not-too-many; flow = flow }
+may_add may flow = record { table = may.table; ports = good_ports may.good; not_too_many = may.good.not_too_many; flow = flow }
 
 pub one_more : (M N : ℕ) (L : List ℕ) (k c : ℕ) (T T' T'' U U' : List ℕ) → MayFill M N L T → IsFlow L k → c < cells_of L k → FilledTo M N L k c T T' U
     → CellAdded M N L k T' T'' → Marked M N L T'' U' → FilledTo M N L k (c + 1) T T'' U'
@@ -158,17 +158,17 @@ one_more M N L k c T T' T'' U U' may flow more f add marked =
     record {
       so_far =
           subst (λ (n : ℕ). SoFar M N L k n T'') (sym (add-one c))
-          (cell-so-far M N L k flow (good-ports may.good) may.fitting c T' T'' more f.so_far add.accepted);
+          (cell_so_far M N L k flow (good_ports may.good) may.fitting c T' T'' more f.so_far add.accepted);
       marked = marked;
       beyond = add.beyond ∙ f.beyond;
     }
 
-pub flow-filled : (M N : ℕ) (L : List ℕ) (k c : ℕ) (T T' U : List ℕ) → IsFlow L k
+pub flow_filled : (M N : ℕ) (L : List ℕ) (k c : ℕ) (T T' U : List ℕ) → IsFlow L k
     → c ≡ cells_of L k → FilledTo M N L k c T T' U → FilledTo M N L (suc k) 0 T T' U
-flow-filled M N L k c T T' U flow e f =
-    record { so_far = flow-so-far M N L k flow T' (subst (λ (n : ℕ). SoFar M N L k n T') e f.so_far); marked = f.marked; beyond = f.beyond }
+flow_filled M N L k c T T' U flow e f =
+    record { so_far = flow_so_far M N L k flow T' (subst (λ (n : ℕ). SoFar M N L k n T') e f.so_far); marked = f.marked; beyond = f.beyond }
 
-pub one-flow-more : (M N : ℕ) (L : List ℕ) (k : ℕ) (T T' T'' U U' : List ℕ)
+pub one_flow_more : (M N : ℕ) (L : List ℕ) (k : ℕ) (T T' T'' U U' : List ℕ)
     → FilledTo M N L k 0 T T' U → FilledTo M N L (suc k) 0 T' T'' U' → FilledTo M N L (k + 1) 0 T T'' U'
-one-flow-more M N L k T T' T'' U U' f g =
+one_flow_more M N L k T T' T'' U U' f g =
     record { so_far = subst (λ (n : ℕ). SoFar M N L n 0 T'') (sym (add-one k)) g.so_far; marked = g.marked; beyond = g.beyond ∙ f.beyond }

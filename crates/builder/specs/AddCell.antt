@@ -1,48 +1,48 @@
 -- One more cell of a flow: what the step that a build repeats promises.
 use Rattle.std.specs.Prelude.{ℕ, zero, suc, ◌+◌, ◌*◌, ◌≤◌, ◌<◌, ◌≡◌, List, length, drop, set}
-use Rattle.answers.specs.Limits.{maxFlows, Within}
-use Rattle.flows.specs.Flows.{perFlow, flowCount, IsFlow, input_of, outputOf, cells_of, inputLoad, outputLoad}
+use Rattle.answers.specs.Limits.{max_flows, Within}
+use Rattle.flows.specs.Flows.{per_flow, flow_count, IsFlow, input_of, output_of, cells_of, input_load, output_load}
 use Rattle.tables.specs.Accepted.{entry, Accepted}
 use Rattle.tables.specs.Check.{Holds}
 
 -- the list with c cells for flow k; there is no flow 0, and for it the list stays
-abbrev pub withCells : List ℕ → ℕ → ℕ → List ℕ
-withCells L zero c = L
-withCells L (suc k) c = set L (perFlow * k + 2) c
+abbrev pub with_cells : List ℕ → ℕ → ℕ → List ℕ
+with_cells L zero c = L
+with_cells L (suc k) c = set L (per_flow * k + 2) c
 
 -- the list with one more cell of flow k
-abbrev pub oneMore : List ℕ → ℕ → List ℕ
-oneMore L k = withCells L k (suc (cells_of L k))
+abbrev pub one_cell_more : List ℕ → ℕ → List ℕ
+one_cell_more L k = with_cells L k (suc (cells_of L k))
 
 -- two lists of the same flows, whatever their cells
 pub record SameFlows (L L' : List ℕ) : Type 0 where
   pub same_length : length L' ≡ length L
   pub same_inputs : (k : ℕ) → input_of L' k ≡ input_of L k
-  pub same-outputs : (k : ℕ) → outputOf L' k ≡ outputOf L k
+  pub same_outputs : (k : ℕ) → output_of L' k ≡ output_of L k
 
 -- each flow's input and output are ports
 pub record PortsInRange (N : ℕ) (L : List ℕ) : Type 0 where
   pub inputs : (k : ℕ) → IsFlow L k → Within 1 N (input_of L k)
-  pub outputs : (k : ℕ) → IsFlow L k → Within 1 N (outputOf L k)
+  pub outputs : (k : ℕ) → IsFlow L k → Within 1 N (output_of L k)
 
 -- what a cell of flow k asks for: room for the table, ports for the flows, and that k is one of them
 pub record MayAdd (M N : ℕ) (L : List ℕ) (k : ℕ) (T : List ℕ) : Type 0 where
   pub table : Holds M N T
   pub ports : PortsInRange N L
-  pub not-too-many : flowCount L ≤ maxFlows
+  pub not_too_many : flow_count L ≤ max_flows
   pub flow : IsFlow L k
 
 -- the tables differ at two slots at most
 pub record InTwoSlots (M N : ℕ) (before after : List ℕ) : Type 0 where
   pub first_slot : ℕ
-  pub second-slot : ℕ
-  pub first-in-frame : first_slot < M
-  pub second-in-frame : second-slot < M
-  pub other-slots : (r s : ℕ) → r < N → s < M → (s ≡ first_slot → ⊥) → (s ≡ second-slot → ⊥) → entry M after r s ≡ entry M before r s
+  pub second_slot : ℕ
+  pub first_in_frame : first_slot < M
+  pub second_in_frame : second_slot < M
+  pub other_slots : (r s : ℕ) → r < N → s < M → (s ≡ first_slot → ⊥) → (s ≡ second_slot → ⊥) → entry M after r s ≡ entry M before r s
 
 -- one cell of flow k was added; whatever cells the table held, if it was accepted for them and neither end of the flow is full, it is accepted for one more
 pub record CellAdded (M N : ℕ) (L : List ℕ) (k : ℕ) (before after : List ℕ) : Type 0 where
   pub accepted : (L' : List ℕ) → SameFlows L L' → Accepted M N L' before
-      → inputLoad L' (input_of L' k) < M → outputLoad L' (outputOf L' k) < M → Accepted M N (oneMore L' k) after
-  pub in-two-slots : InTwoSlots M N before after
+      → input_load L' (input_of L' k) < M → output_load L' (output_of L' k) < M → Accepted M N (one_cell_more L' k) after
+  pub in_two_slots : InTwoSlots M N before after
   pub beyond : drop (N * M) after ≡ drop (N * M) before

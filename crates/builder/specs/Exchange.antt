@@ -16,16 +16,16 @@ unfoldable pub unseen : ℕ → List ℕ → ℕ
 unseen N marks = sum N (λ r. one (eqb (get_or marks r 0) 0))
 
 -- row r is not yet seen and holds input y at slot s
-abbrev pub holdsNext : ℕ → List ℕ → List ℕ → ℕ → ℕ → List ℕ → ℕ → Bool
-holdsNext M L marks s y T r = eqb (get_or marks r 0) 0 && eqb (input_of L (entry M T r s)) y
+abbrev pub holds_next : ℕ → List ℕ → List ℕ → ℕ → ℕ → List ℕ → ℕ → Bool
+holds_next M L marks s y T r = eqb (get_or marks r 0) 0 && eqb (input_of L (entry M T r s)) y
 
 -- the row to which input y leads from slot s, and N where it leads to none
-unfoldable pub nextRow : ℕ → ℕ → List ℕ → List ℕ → ℕ → ℕ → List ℕ → ℕ
-nextRow M N L marks s y T = lowest 0 N (holdsNext M L marks s y T)
+unfoldable pub next_row : ℕ → ℕ → List ℕ → List ℕ → ℕ → ℕ → List ℕ → ℕ
+next_row M N L marks s y T = lowest 0 N (holds_next M L marks s y T)
 
 -- from an input: where it leads to a row, the run goes on there
-abbrev pub fromInput : (ℕ → List ℕ) → ℕ → ℕ → List ℕ → List ℕ
-fromInput onward N row T = cond (ltb row N) (onward row) T
+abbrev pub from_input : (ℕ → List ℕ) → ℕ → ℕ → List ℕ → List ℕ
+from_input onward N row T = cond (ltb row N) (onward row) T
 
 -- from row r: it exchanges its entries at slots p and q; the input that came to p is followed, if there is one (n rows are unseen)
 unfoldable pub run : ℕ → ℕ → ℕ → List ℕ → ℕ → ℕ → ℕ → List ℕ → List ℕ → List ℕ
@@ -34,21 +34,21 @@ run (suc n) M N L p q r marks T =
     let T' : List ℕ = swapped T (r * M + p) (r * M + q) in
     let y : ℕ = input_of L (entry M T' r p) in
     cond (eqb y 0) T'
-    (fromInput (λ row. run n M N L p q row (set marks r 1) T') N (nextRow M N L (set marks r 1) p y T') T')
+    (from_input (λ row. run n M N L p q row (set marks r 1) T') N (next_row M N L (set marks r 1) p y T') T')
 
 -- the output side of the run: it goes on from row r
-abbrev pub outputSide : ℕ → ℕ → List ℕ → ℕ → ℕ → ℕ → List ℕ → List ℕ → List ℕ
-outputSide M N L p q r marks T = run (unseen N marks) M N L p q r marks T
+abbrev pub output_side : ℕ → ℕ → List ℕ → ℕ → ℕ → ℕ → List ℕ → List ℕ → List ℕ
+output_side M N L p q r marks T = run (unseen N marks) M N L p q r marks T
 
 -- the input side: it goes on from input y, which came to slot p
-abbrev pub inputSide : ℕ → ℕ → List ℕ → ℕ → ℕ → ℕ → List ℕ → List ℕ → List ℕ
-inputSide M N L p q y marks T = fromInput (λ r. outputSide M N L p q r marks T) N (nextRow M N L marks p y T) T
+abbrev pub input_side : ℕ → ℕ → List ℕ → ℕ → ℕ → ℕ → List ℕ → List ℕ → List ℕ
+input_side M N L p q y marks T = from_input (λ r. output_side M N L p q r marks T) N (next_row M N L marks p y T) T
 
 -- the table has its rows, and both slots lie in the frame
 pub record SlotsIn (M N p q : ℕ) (T : List ℕ) : Type 0 where
   pub table : Holds M N T
-  pub first-in : p < M
-  pub second-in : q < M
+  pub first_in : p < M
+  pub second_in : q < M
 
 -- row r is one of the table's, and not yet seen
 pub record RowNext (N r : ℕ) (marks : List ℕ) : Type 0 where

@@ -13,7 +13,7 @@ emptied T end = replicate {A = ℕ} end 0 ++ drop end T
 -- all cells of the flows before k are placed, c of flow k's, and none of a later flow's
 pub record SoFar (M N : ℕ) (L : List ℕ) (k c : ℕ) (T : List ℕ) : Type 0 where
   pub held : List ℕ
-  pub same-flows : SameFlows L held
+  pub same_flows : SameFlows L held
   pub accepted : Accepted M N held T
   pub earlier : (x : ℕ) → IsFlow L x → x < k → cells_of held x ≡ cells_of L x
   pub this : IsFlow L k → cells_of held k ≡ c

@@ -3,11 +3,11 @@ use Rattle.std.specs.Prelude.{ℕ, ◌-◌, ◌<◌, ◌≡◌, not, List}
 use Rattle.answers.specs.Limits.{Within}
 use Rattle.tables.specs.Accepted.{entry}
 use Rattle.tables.specs.Check.{Holds}
-use Rattle.builder.specs.FreeSlots.{empty_at, inputUsed}
+use Rattle.builder.specs.FreeSlots.{empty_at, input_used}
 
 -- at slot s the marks say of each input whether it is free
 abbrev pub MarkedAt : ℕ → ℕ → List ℕ → List ℕ → List ℕ → ℕ → Type 0
-MarkedAt M N L T used s = (i : ℕ) → Within 1 N i → empty_at M used (i - 1) s ≡ not (inputUsed M N L T i s)
+MarkedAt M N L T used s = (i : ℕ) → Within 1 N i → empty_at M used (i - 1) s ≡ not (input_used M N L T i s)
 
 -- they do at every slot
 pub record Marked (M N : ℕ) (L T used : List ℕ) : Type 0 where

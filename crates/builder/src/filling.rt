@@ -1,6 +1,6 @@
 // The filling of an empty table: flow by flow, and cell by cell.
 ghost use Rattle.std.specs.Prelude.{◌≡◌, suc, ◌≤◌, length};
-ghost use Rattle.flows.specs.Flows.{flowCount, IsFlow};
+ghost use Rattle.flows.specs.Flows.{flow_count, IsFlow};
 ghost use Rattle.builder.specs.InputMarks.{Marked};
 ghost use Rattle.builder.specs.Filling.{emptied, SoFar, MayFill, FilledTo};
 
@@ -43,7 +43,7 @@ fn fill_flow(
 pub fn fill(frame: usize, ports: usize, list: &[u16], table: &mut [u8], used: &mut [u8])
     requires { MayFill frame ports list.now table.old
         × SoFar frame ports list.now 1 0 table.old × Marked frame ports list.now table.old used.old }
-    ensures { FilledTo frame ports list.now (suc (flowCount list.now)) 0
+    ensures { FilledTo frame ports list.now (suc (flow_count list.now)) 0
         table.old table.new used.new }
 {
     let last = flows::flow_count(list);

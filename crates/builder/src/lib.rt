@@ -1,7 +1,7 @@
 // The builder: one cell placed by the exchange, and the build that repeats it.
 ghost use Rattle.std.specs.Prelude.{◌≡◌, ◌≤◌};
-ghost use Rattle.answers.specs.Limits.{maxPorts, maxFrame};
-ghost use Rattle.builder.specs.Build.{loadAnswer, Built};
+ghost use Rattle.answers.specs.Limits.{max_ports, max_frame};
+ghost use Rattle.builder.specs.Build.{load_answer, Built};
 
 use crate::filling::{clear, fill};
 use answers::{
@@ -15,8 +15,8 @@ mod slots;
 
 // Refusals 5, 6 and 7, or done.
 fn load_answer(frame: usize, ports: usize, list: &[u16], length: usize) -> Answer
-    requires { (ports ≤ maxPorts) × (frame ≤ maxFrame) }
-    ensures { result ≡ loadAnswer frame ports list.now length }
+    requires { (ports ≤ max_ports) × (frame ≤ max_frame) }
+    ensures { result ≡ load_answer frame ports list.now length }
 {
     let input = flows::first_overloaded_input(frame, ports, list);
     if input <= ports {

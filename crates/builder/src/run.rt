@@ -1,7 +1,7 @@
 // The exchange run: from an output's row to an input, and from that input to the next row that holds it.
 ghost use Rattle.std.specs.Prelude.{◌≡◌, ◌<◌, length};
 ghost use Rattle.tables.specs.Check.{Holds};
-ghost use Rattle.builder.specs.Exchange.{swapped, nextRow, outputSide, inputSide, SlotsIn, RowNext};
+ghost use Rattle.builder.specs.Exchange.{swapped, next_row, output_side, input_side, SlotsIn, RowNext};
 
 use answers::MAX_PORTS;
 
@@ -26,7 +26,7 @@ fn row_holding(
     marks: [u8; MAX_PORTS],
 ) -> usize
     requires { Holds frame ports table.now × (slot < frame) }
-    ensures { result ≡ nextRow frame ports list.now marks slot input table.now }
+    ensures { result ≡ next_row frame ports list.now marks slot input table.now }
 {
     let mut row = 0;
     while row < ports {
@@ -54,7 +54,7 @@ pub fn output_side(
     marks: [u8; MAX_PORTS],
 )
     requires { SlotsIn frame ports first second table.old × RowNext ports row marks }
-    ensures { table.new ≡ outputSide frame ports list.now first second row marks table.old }
+    ensures { table.new ≡ output_side frame ports list.now first second row marks table.old }
 {
     let start = row * frame;
     swap_places(table, start + first, start + second);
@@ -79,7 +79,7 @@ fn input_side(
     marks: [u8; MAX_PORTS],
 )
     requires { SlotsIn frame ports first second table.old }
-    ensures { table.new ≡ inputSide frame ports list.now first second input marks table.old }
+    ensures { table.new ≡ input_side frame ports list.now first second input marks table.old }
 {
     let row = row_holding(frame, ports, list, table, first, input, marks);
     if row < ports {

@@ -3,13 +3,13 @@ ghost use Rattle.std.specs.Prelude.{◌≡◌, ◌+◌, ◌*◌, ◌<◌, ◌≤
 ghost use Rattle.answers.specs.Limits.{Within};
 ghost use Rattle.answers.specs.Sums.{one};
 ghost use Rattle.tables.specs.Check.{Holds};
-ghost use Rattle.builder.specs.FreeSlots.{inputUsed, freeOfRow, freeOfInput};
+ghost use Rattle.builder.specs.FreeSlots.{input_used, free_of_row, free_of_input};
 ghost use Rattle.builder.specs.InputMarks.{Marked, Remarked};
 
 // The first slot at which the row is empty, or the frame.
 pub fn free_of_row(frame: usize, table: &[u8], row: usize) -> usize
     requires { row * frame + frame ≤ length table.now }
-    ensures { result ≡ freeOfRow frame table.now row }
+    ensures { result ≡ free_of_row frame table.now row }
 {
     let start = row * frame;
     let mut slot = 0;
@@ -32,7 +32,7 @@ fn input_used(
     slot: usize,
 ) -> bool
     requires { Holds frame ports table.now × (slot < frame) }
-    ensures { result ≡ inputUsed frame ports list.now table.now input slot }
+    ensures { result ≡ input_used frame ports list.now table.now input slot }
 {
     let mut row = 0;
     while row < ports {
@@ -79,7 +79,7 @@ pub fn free_of_input(
     input: usize,
 ) -> usize
     requires { Marked frame ports list.now table.now used.now × Within 1 ports input }
-    ensures { result ≡ freeOfInput frame ports list.now table.now input }
+    ensures { result ≡ free_of_input frame ports list.now table.now input }
 {
     free_of_row(frame, used, input - 1)
 }

@@ -1,73 +1,73 @@
 -- What a call about cycles refuses, and in which order.
 use Rattle.std.specs.Prelude.{ℕ, ◌-◌, Bool, not, ◌||◌, List, [], ◌∷◌, ◌++◌, length, pos, eqb, ltb}
 use Rattle.answers.specs.declared.Answer.{Answer}
-use Rattle.answers.specs.Numbers.{BUFFER-TOO-SMALL, MESSAGE-MISSHAPEN, MESSAGE-ABOVE-WINDOW, CYCLES-MISSIZED}
-use Rattle.answers.specs.Limits.{maxCycleLinks, maxMessages, maxCycles, outside}
-use Rattle.answers.specs.Lowest.{holdsSomewhere}
-use Rattle.answers.specs.Answers.{Rule, refusal, doneWith, ◌when◌, namingLowest, first}
-use Rattle.shore.specs.Cycle.{Network, links, messages, size_of, setOf, in_set, noRoom}
+use Rattle.answers.specs.Numbers.{BUFFER_TOO_SMALL, MESSAGE_MISSHAPEN, MESSAGE_ABOVE_WINDOW, CYCLES_MISSIZED}
+use Rattle.answers.specs.Limits.{max_cycle_links, max_messages, max_cycles, outside}
+use Rattle.answers.specs.Lowest.{holds_somewhere}
+use Rattle.answers.specs.Answers.{Rule, refusal, done_with, ◌when◌, naming_lowest, first}
+use Rattle.shore.specs.Cycle.{Network, links, messages, size_of, set_of, in_set, no_room}
 
 -- refusal 34 of a network: too many links, too many messages, or not as many sets as sizes
 abbrev pub missized : ℕ → ℕ → ℕ → Bool
-missized linkCount messageCount setCount = ltb maxCycleLinks linkCount || (ltb maxMessages messageCount || not (eqb setCount messageCount))
+missized linkCount messageCount setCount = ltb max_cycle_links linkCount || (ltb max_messages messageCount || not (eqb setCount messageCount))
 
-abbrev pub networkMissized : Network → Bool
-networkMissized w = missized (links w) (messages w) (length w.sets)
+abbrev pub network_missized : Network → Bool
+network_missized w = missized (links w) (messages w) (length w.sets)
 
 -- a set has a link that is not there
-abbrev pub linkMissing : ℕ → ℕ → Bool
-linkMissing linkCount set = holdsSomewhere linkCount (maxCycleLinks - linkCount) (in_set set)
+abbrev pub link_missing : ℕ → ℕ → Bool
+link_missing linkCount set = holds_somewhere linkCount (max_cycle_links - linkCount) (in_set set)
 
 -- refusal 30 of a message: "an empty set, a link not there or size 0"
 abbrev pub misshapen : ℕ → ℕ → ℕ → Bool
-misshapen linkCount size set = eqb set 0 || (linkMissing linkCount set || eqb size 0)
+misshapen linkCount size set = eqb set 0 || (link_missing linkCount set || eqb size 0)
 
 -- refusal 31 of a message: "a size above a window on its path", which is no room for it though nothing was taken
-abbrev pub aboveWindow : List ℕ → ℕ → ℕ → Bool
-aboveWindow W size set = noRoom W (λ l. 0) size set
+abbrev pub above_window : List ℕ → ℕ → ℕ → Bool
+above_window W size set = no_room W (λ l. 0) size set
 
 -- the same of message i
-abbrev pub messageMisshapen : Network → ℕ → Bool
-messageMisshapen w i = misshapen (links w) (size_of w i) (setOf w i)
+abbrev pub message_misshapen : Network → ℕ → Bool
+message_misshapen w i = misshapen (links w) (size_of w i) (set_of w i)
 
-abbrev pub messageAboveWindow : Network → ℕ → Bool
-messageAboveWindow w i = aboveWindow w.windows (size_of w i) (setOf w i)
+abbrev pub message_above_window : Network → ℕ → Bool
+message_above_window w i = above_window w.windows (size_of w i) (set_of w i)
 
 -- the refusals that are the network's own, in their order: 34, 30, 31
-abbrev pub networkRules : Network → List Rule
-networkRules w =
-    (refusal CYCLES-MISSIZED when networkMissized w)
-    ∷ namingLowest MESSAGE-MISSHAPEN 0 (messages w) (messageMisshapen w)
-    ∷ namingLowest MESSAGE-ABOVE-WINDOW 0 (messages w) (messageAboveWindow w)
+abbrev pub network_rules : Network → List Rule
+network_rules w =
+    (refusal CYCLES_MISSIZED when network_missized w)
+    ∷ naming_lowest MESSAGE_MISSHAPEN 0 (messages w) (message_misshapen w)
+    ∷ naming_lowest MESSAGE_ABOVE_WINDOW 0 (messages w) (message_above_window w)
     ∷ []
 
-unfoldable pub networkAnswer : Network → Answer
-networkAnswer w = first (networkRules w) (doneWith (pos 0))
+unfoldable pub network_answer : Network → Answer
+network_answer w = first (network_rules w) (done_with (pos 0))
 
 -- of a cycle, 34 judges the list that says which messages are ready too, and 21 the buffers for the messages taken and for the loads
-abbrev pub cycleMissized : Network → List ℕ → Bool
-cycleMissized w ready = not (eqb (length ready) (messages w))
+abbrev pub cycle_missized : Network → List ℕ → Bool
+cycle_missized w ready = not (eqb (length ready) (messages w))
 
-abbrev pub cycleShort : Network → ℕ → ℕ → Bool
-cycleShort w takenRoom loadRoom = ltb takenRoom (messages w) || ltb loadRoom (links w)
+abbrev pub cycle_short : Network → ℕ → ℕ → Bool
+cycle_short w takenRoom loadRoom = ltb takenRoom (messages w) || ltb loadRoom (links w)
 
-abbrev pub cycleRules : Network → List ℕ → ℕ → ℕ → List Rule
-cycleRules w ready takenRoom loadRoom =
-    (refusal CYCLES-MISSIZED when cycleMissized w ready) ∷ (networkRules w ++ (refusal BUFFER-TOO-SMALL when cycleShort w takenRoom loadRoom) ∷ [])
+abbrev pub cycle_rules : Network → List ℕ → ℕ → ℕ → List Rule
+cycle_rules w ready takenRoom loadRoom =
+    (refusal CYCLES_MISSIZED when cycle_missized w ready) ∷ (network_rules w ++ (refusal BUFFER_TOO_SMALL when cycle_short w takenRoom loadRoom) ∷ [])
 
-unfoldable pub cycleAnswer : Network → List ℕ → ℕ → ℕ → Answer
-cycleAnswer w ready takenRoom loadRoom = first (cycleRules w ready takenRoom loadRoom) (doneWith (pos 0))
+unfoldable pub cycle_answer : Network → List ℕ → ℕ → ℕ → Answer
+cycle_answer w ready takenRoom loadRoom = first (cycle_rules w ready takenRoom loadRoom) (done_with (pos 0))
 
 -- of a run, 34 judges the number of cycles and the list of releases too, and 21 the buffer for the responses
-abbrev pub runMissized : Network → List ℕ → ℕ → Bool
-runMissized w releases cycles = outside 1 maxCycles cycles || not (eqb (length releases) (messages w))
+abbrev pub run_missized : Network → List ℕ → ℕ → Bool
+run_missized w releases cycles = outside 1 max_cycles cycles || not (eqb (length releases) (messages w))
 
-abbrev pub runShort : Network → ℕ → Bool
-runShort w responseRoom = ltb responseRoom (messages w)
+abbrev pub run_short : Network → ℕ → Bool
+run_short w responseRoom = ltb responseRoom (messages w)
 
-abbrev pub runRules : Network → List ℕ → ℕ → ℕ → List Rule
-runRules w releases cycles responseRoom =
-    (refusal CYCLES-MISSIZED when runMissized w releases cycles) ∷ (networkRules w ++ (refusal BUFFER-TOO-SMALL when runShort w responseRoom) ∷ [])
+abbrev pub run_rules : Network → List ℕ → ℕ → ℕ → List Rule
+run_rules w releases cycles responseRoom =
+    (refusal CYCLES_MISSIZED when run_missized w releases cycles) ∷ (network_rules w ++ (refusal BUFFER_TOO_SMALL when run_short w responseRoom) ∷ [])
 
-unfoldable pub runAnswer : Network → List ℕ → ℕ → ℕ → Answer
-runAnswer w releases cycles responseRoom = first (runRules w releases cycles responseRoom) (doneWith (pos 0))
+unfoldable pub run_answer : Network → List ℕ → ℕ → ℕ → Answer
+run_answer w releases cycles responseRoom = first (run_rules w releases cycles responseRoom) (done_with (pos 0))

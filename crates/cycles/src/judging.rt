@@ -1,9 +1,9 @@
 // What is refused of a network itself: its lists' lengths first, then its messages, one after the other.
 ghost use Rattle.std.specs.Prelude.{◌≡◌, ◌≤◌, length};
-ghost use Rattle.answers.specs.Limits.{maxCycleLinks};
+ghost use Rattle.answers.specs.Limits.{max_cycle_links};
 ghost use Rattle.answers.specs.Lowest.{lowest};
 ghost use Rattle.shore.specs.Cycle.{network};
-ghost use Rattle.cycles.specs.Judging.{missized, linkMissing, misshapen, aboveWindow, messageMisshapen, messageAboveWindow, networkAnswer};
+ghost use Rattle.cycles.specs.Judging.{missized, link_missing, misshapen, above_window, message_misshapen, message_above_window, network_answer};
 
 use crate::links;
 use answers::{
@@ -25,8 +25,8 @@ fn missized(links: usize, messages: usize, sets: usize) -> bool
 
 // Whether a set has a link that is not there.
 fn link_missing(links: usize, set: u32) -> bool
-    requires { links ≤ maxCycleLinks }
-    ensures { result ≡ linkMissing links set }
+    requires { links ≤ max_cycle_links }
+    ensures { result ≡ link_missing links set }
 {
     let mut link = links;
     while link < MAX_CYCLE_LINKS {
@@ -40,7 +40,7 @@ fn link_missing(links: usize, set: u32) -> bool
 
 // Refusal 30 of one message.
 fn misshapen(links: usize, size: u16, set: u32) -> bool
-    requires { links ≤ maxCycleLinks }
+    requires { links ≤ max_cycle_links }
     ensures { result ≡ misshapen links size set }
 {
     if set == 0 {
@@ -54,10 +54,10 @@ fn misshapen(links: usize, size: u16, set: u32) -> bool
 
 // The lowest message that refusal 30 names, or the number of messages.
 fn first_misshapen(windows: &[u16], sizes: &[u16], sets: &[u32]) -> usize
-    requires few { length windows.now ≤ maxCycleLinks }
+    requires few { length windows.now ≤ max_cycle_links }
     requires paired { length sets.now ≡ length sizes.now }
     ensures { result ≡ lowest 0 (length sizes.now)
-        (messageMisshapen (network windows.now sizes.now sets.now)) }
+        (message_misshapen (network windows.now sizes.now sets.now)) }
 {
     let mut message = 0;
     while message < sizes.len() {
@@ -71,8 +71,8 @@ fn first_misshapen(windows: &[u16], sizes: &[u16], sets: &[u32]) -> usize
 
 // Refusal 31 of one message: no room for it though nothing was taken.
 fn above_window(windows: &[u16], size: u16, set: u32) -> bool
-    requires { length windows.now ≤ maxCycleLinks }
-    ensures { result ≡ aboveWindow windows.now size set }
+    requires { length windows.now ≤ max_cycle_links }
+    ensures { result ≡ above_window windows.now size set }
 {
     let nothing = [0u16; MAX_CYCLE_LINKS];
     links::no_room(windows, &nothing, size, set)
@@ -80,10 +80,10 @@ fn above_window(windows: &[u16], size: u16, set: u32) -> bool
 
 // The lowest message that refusal 31 names, or the number of messages.
 fn first_above_window(windows: &[u16], sizes: &[u16], sets: &[u32]) -> usize
-    requires few { length windows.now ≤ maxCycleLinks }
+    requires few { length windows.now ≤ max_cycle_links }
     requires paired { length sets.now ≡ length sizes.now }
     ensures { result ≡ lowest 0 (length sizes.now)
-        (messageAboveWindow (network windows.now sizes.now sets.now)) }
+        (message_above_window (network windows.now sizes.now sets.now)) }
 {
     let mut message = 0;
     while message < sizes.len() {
@@ -97,7 +97,7 @@ fn first_above_window(windows: &[u16], sizes: &[u16], sets: &[u32]) -> usize
 
 // What a network is refused with, or done.
 pub fn network_answer(windows: &[u16], sizes: &[u16], sets: &[u32]) -> Answer
-    ensures { result ≡ networkAnswer (network windows.now sizes.now sets.now) }
+    ensures { result ≡ network_answer (network windows.now sizes.now sets.now) }
 {
     if missized(windows.len(), sizes.len(), sets.len()) {
         return answers::refusal(CYCLES_MISSIZED);

@@ -1,9 +1,9 @@
 // Elementary cycles of the shore network: which messages a cycle takes, and what responses they have over a run of cycles.
 // Windows, sizes, sets of links, releases and responses are lent as lists; a refusal changes nothing.
 ghost use Rattle.std.specs.Prelude.{◌≡◌, not, ◌||◌, eqb, ltb};
-ghost use Rattle.answers.specs.Limits.{maxCycles, outside};
+ghost use Rattle.answers.specs.Limits.{max_cycles, outside};
 ghost use Rattle.shore.specs.Cycle.{network};
-ghost use Rattle.cycles.specs.Judging.{cycleAnswer, runAnswer};
+ghost use Rattle.cycles.specs.Judging.{cycle_answer, run_answer};
 ghost use Rattle.cycles.specs.Promises.{Cycled, RunOver};
 
 use crate::judging::network_answer;
@@ -41,7 +41,7 @@ fn cycle_answer(
     taken_room: usize,
     load_room: usize,
 ) -> Answer
-    ensures { result ≡ cycleAnswer (network windows.now sizes.now sets.now)
+    ensures { result ≡ cycle_answer (network windows.now sizes.now sets.now)
         ready.now taken_room load_room }
 {
     if ready.len() != sizes.len() {
@@ -59,7 +59,7 @@ fn cycle_answer(
 
 // Refusal 34 of a run, beside that of its network.
 fn run_missized(cycles: usize, releases: usize, messages: usize) -> bool
-    ensures { result ≡ (outside 1 maxCycles cycles || not (eqb releases messages)) }
+    ensures { result ≡ (outside 1 max_cycles cycles || not (eqb releases messages)) }
 {
     if answers::outside(1, MAX_CYCLES, cycles) {
         return true;
@@ -76,7 +76,7 @@ fn run_answer(
     cycles: usize,
     response_room: usize,
 ) -> Answer
-    ensures { result ≡ runAnswer (network windows.now sizes.now sets.now)
+    ensures { result ≡ run_answer (network windows.now sizes.now sets.now)
         releases.now cycles response_room }
 {
     if run_missized(cycles, releases.len(), sizes.len()) {

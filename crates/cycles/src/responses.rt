@@ -1,20 +1,20 @@
 // A run of cycles, and what response each message has. While the run goes on, the responses tell which messages still wait.
 ghost use Rattle.std.specs.Prelude.{◌≡◌, not, ◌≤◌, ◌<◌, length, get_or, eqb};
-ghost use Rattle.answers.specs.Limits.{maxCycles};
+ghost use Rattle.answers.specs.Limits.{max_cycles};
 ghost use Rattle.answers.specs.Sums.{one};
 ghost use Rattle.answers.specs.Buffers.{written};
 ghost use Rattle.shore.specs.Cycle.{network};
-ghost use Rattle.shore.specs.Run.{releaseOf, markFor, responseOf};
+ghost use Rattle.shore.specs.Run.{release_of, mark_for, response_of};
 ghost use Rattle.cycles.specs.Promises.{marked};
 ghost use Rattle.cycles.specs.Refusals.{Sized, RunSized};
-ghost use Rattle.cycles.specs.Steps.{stillReady, readyNow, InTime, AllInTime, responseAfter, afterCycle};
+ghost use Rattle.cycles.specs.Steps.{still_ready, ready_now, InTime, AllInTime, response_after, after_cycle};
 
 use crate::taking;
 use answers::{MAX_CYCLE_LINKS, MAX_MESSAGES};
 
 // The mark of a message that no cycle took.
 fn mark(release: u16, cycles: usize) -> u16
-    ensures { result ≡ markFor release cycles }
+    ensures { result ≡ mark_for release cycles }
 {
     if (release as usize) < cycles {
         return crate::STILL_WAITING;
@@ -26,7 +26,7 @@ fn mark(release: u16, cycles: usize) -> u16
 fn mark_releases(releases: &[u16], cycles: usize, responses: &mut [u16])
     requires { length releases.now ≤ length responses.old }
     ensures { responses.new ≡ written (length releases.now)
-        (λ i. markFor (releaseOf releases.now i) cycles)
+        (λ i. mark_for (release_of releases.now i) cycles)
         responses.old }
 {
     let mut message = 0;
@@ -38,7 +38,7 @@ fn mark_releases(releases: &[u16], cycles: usize, responses: &mut [u16])
 
 // Whether a message is ready in a cycle, as a byte: it is released by then and still waits.
 fn ready_byte(release: u16, response: u16, cycle: usize) -> u8
-    ensures { result ≡ one (stillReady release response cycle) }
+    ensures { result ≡ one (still_ready release response cycle) }
 {
     if cycle < release as usize {
         return 0;
@@ -54,7 +54,7 @@ fn make_ready(releases: &[u16], responses: &[u16], cycle: usize, ready: &mut [u8
     requires known { length releases.now ≤ length responses.now }
     requires room { length releases.now ≤ length ready.old }
     ensures { ready.new ≡ written (length releases.now)
-        (λ i. one (readyNow releases.now responses.now cycle i))
+        (λ i. one (ready_now releases.now responses.now cycle i))
         ready.old }
 {
     let mut message = 0;
@@ -67,8 +67,8 @@ fn make_ready(releases: &[u16], responses: &[u16], cycle: usize, ready: &mut [u8
 // The response of a message after a cycle: the cycles from release through this one if it takes it, else as it was.
 fn response_after(taken: u8, release: u16, cycle: usize, before: u16) -> u16
     requires released { InTime taken release cycle }
-    requires few { cycle < maxCycles }
-    ensures { result ≡ responseAfter (not (eqb taken 0)) release cycle before }
+    requires few { cycle < max_cycles }
+    ensures { result ≡ response_after (not (eqb taken 0)) release cycle before }
 {
     if taken == 0 {
         return before;
@@ -81,9 +81,9 @@ fn note_taken(releases: &[u16], taken: &[u8], cycle: usize, responses: &mut [u16
     requires bytes { length releases.now ≤ length taken.now }
     requires room { length releases.now ≤ length responses.old }
     requires released { AllInTime releases.now taken.now cycle }
-    requires few { cycle < maxCycles }
+    requires few { cycle < max_cycles }
     ensures { responses.new ≡ written (length releases.now)
-        (λ i. responseAfter (marked taken.now i) (releaseOf releases.now i) cycle (get_or responses.old i 0))
+        (λ i. response_after (marked taken.now i) (release_of releases.now i) cycle (get_or responses.old i 0))
         responses.old }
 {
     let mut message = 0;
@@ -110,8 +110,8 @@ fn run_cycle(
     requires sized { Sized (network windows.now sizes.now sets.now) }
     requires released { length releases.now ≡ length sizes.now }
     requires room { length sizes.now ≤ length responses.old }
-    requires few { cycle < maxCycles }
-    ensures { responses.new ≡ afterCycle (network windows.now sizes.now sets.now)
+    requires few { cycle < max_cycles }
+    ensures { responses.new ≡ after_cycle (network windows.now sizes.now sets.now)
         releases.now cycle responses.old }
 {
     let mut ready = [0u8; MAX_MESSAGES];
@@ -134,7 +134,7 @@ pub fn run_cycles(
     requires sized { RunSized (network windows.now sizes.now sets.now) releases.now cycles }
     requires room { length sizes.now ≤ length responses.old }
     ensures { responses.new ≡ written (length sizes.now)
-        (responseOf (network windows.now sizes.now sets.now) releases.now cycles)
+        (response_of (network windows.now sizes.now sets.now) releases.now cycles)
         responses.old }
 {
     mark_releases(releases, cycles, responses);

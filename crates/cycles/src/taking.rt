@@ -1,11 +1,11 @@
 // What one cycle takes.
 ghost use Rattle.std.specs.Prelude.{◌≡◌, cond, ◌≤◌, length};
-ghost use Rattle.answers.specs.Limits.{maxCycleLinks};
+ghost use Rattle.answers.specs.Limits.{max_cycle_links};
 ghost use Rattle.answers.specs.Sums.{one};
 ghost use Rattle.answers.specs.Buffers.{written};
 ghost use Rattle.shore.specs.Cycle.{network, load_of};
-ghost use Rattle.cycles.specs.Promises.{marked, takenByte};
-ghost use Rattle.cycles.specs.Steps.{takesNow, added};
+ghost use Rattle.cycles.specs.Promises.{marked, taken_byte};
+ghost use Rattle.cycles.specs.Steps.{takes_now, added};
 
 use crate::links;
 
@@ -23,10 +23,10 @@ fn clear(load: &mut [u16], links: usize)
 
 // Takes a message if it is ready and there is room for it on all its links: then its size is on them and 1 comes back, else 0.
 fn take(windows: &[u16], size: u16, set: u32, ready: u8, load: &mut [u16]) -> u8
-    requires few { length windows.now ≤ maxCycleLinks }
+    requires few { length windows.now ≤ max_cycle_links }
     requires room { length windows.now ≤ length load.old }
-    ensures byte { result ≡ one (takesNow windows.now load.old size set ready) }
-    ensures loads { load.new ≡ cond (takesNow windows.now load.old size set ready)
+    ensures byte { result ≡ one (takes_now windows.now load.old size set ready) }
+    ensures loads { load.new ≡ cond (takes_now windows.now load.old size set ready)
         (added (length windows.now) size set load.old)
         load.old }
 {
@@ -49,13 +49,13 @@ pub fn take_ready(
     taken_bytes: &mut [u8],
     load: &mut [u16],
 )
-    requires few { length windows.now ≤ maxCycleLinks }
+    requires few { length windows.now ≤ max_cycle_links }
     requires paired { length sets.now ≡ length sizes.now }
     requires judged { length sizes.now ≤ length ready.now }
     requires bytes { length sizes.now ≤ length taken_bytes.old }
     requires room { length windows.now ≤ length load.old }
     ensures marked { taken_bytes.new ≡ written (length sizes.now)
-        (takenByte (network windows.now sizes.now sets.now) ready.now)
+        (taken_byte (network windows.now sizes.now sets.now) ready.now)
         taken_bytes.old }
     ensures loads { load.new ≡ written (length windows.now)
         (load_of (network windows.now sizes.now sets.now) (marked ready.now))

@@ -2,41 +2,41 @@
 use Rattle.demands.specs.Contracts.{MarginAnswers, RoomAnswers, FitAnswers, CellsAnswers, CycleGoes, RunGoes, TrdAnswers, CheckAnswers}
 use Rattle.demands.specs.Contracts.{RowAnswers, RowIsPart, BuildBuilds, ReadReads, WriteWrites}
 
-pub margin-answers : MarginAnswers
-margin-answers κ x a l c = c
+pub margin_answers : MarginAnswers
+margin_answers κ x a l c = c
 
-pub room-answers : RoomAnswers
-room-answers κ x a l c = c
+pub room_answers : RoomAnswers
+room_answers κ x a l c = c
 
-pub fit-answers : FitAnswers
-fit-answers κ x a l c = c
+pub fit_answers : FitAnswers
+fit_answers κ x a l c = c
 
-pub cells-answers : CellsAnswers
-cells-answers κ x a l c = c
+pub cells_answers : CellsAnswers
+cells_answers κ x a l c = c
 
-pub cycle-goes : CycleGoes
-cycle-goes κ x a l c = c
+pub cycle_goes : CycleGoes
+cycle_goes κ x a l c = c
 
-pub run-goes : RunGoes
-run-goes κ x a l c = c
+pub run_goes : RunGoes
+run_goes κ x a l c = c
 
-pub trd-answers : TrdAnswers
-trd-answers κ x a l c = c
+pub trd_answers : TrdAnswers
+trd_answers κ x a l c = c
 
-pub check-answers : CheckAnswers
-check-answers κ x a l c = c
+pub check_answers : CheckAnswers
+check_answers κ x a l c = c
 
-pub row-answers : RowAnswers
-row-answers κ x a l c = c
+pub row_answers : RowAnswers
+row_answers κ x a l c = c
 
-pub row-is-part : RowIsPart
-row-is-part κ x a l c = c
+pub row_is_part : RowIsPart
+row_is_part κ x a l c = c
 
-pub build-builds : BuildBuilds
-build-builds κ x a l c = c
+pub build_builds : BuildBuilds
+build_builds κ x a l c = c
 
-pub read-reads : ReadReads
-read-reads κ x a l c = c
+pub read_reads : ReadReads
+read_reads κ x a l c = c
 
-pub write-writes : WriteWrites
-write-writes κ x a l c = c
+pub write_writes : WriteWrites
+write_writes κ x a l c = c

@@ -11,9 +11,9 @@ use Rattle.answers.specs.Numbers.{DONE}
 use Rattle.answers.specs.Buffers.{written}
 use Rattle.answers.proofs.Buffers.{written_at}
 use Rattle.shore.specs.Cycle.{Network, messages}
-use Rattle.shore.specs.Run.{releaseOf, responseOf}
+use Rattle.shore.specs.Run.{release_of, response_of}
 use Rattle.cycles.specs.Promises.{RunOver}
-use Rattle.cycles.proofs.Outcomes.{run-sized}
+use Rattle.cycles.proofs.Outcomes.{run_sized}
 use Rattle.shore.proofs.Loads as Loads
 use Rattle.shore.proofs.Agreeing as Agreeing
 use Rattle.shore.proofs.Turns as Turns
@@ -24,67 +24,67 @@ use Rattle.demands.specs.Cycles.{LoadWithinWindow, LoadIsSum, TakenExactly, Lowe
 use Rattle.demands.specs.Cycles.{TakenFromRelease, TakenOnce, ResponseCounts, MarkedWaiting, MarkedPast}
 use Rattle.demands.specs.Cycles.{CycleRefuses, RunRefuses, TrdIsLeast, TrdGiven, ResponsesLeftBounded}
 
-pub load-within-window : LoadWithinWindow
-load-within-window = Loads.load-within-window
+pub load_within_window : LoadWithinWindow
+load_within_window = Loads.load_within_window
 
-pub load-is-sum : LoadIsSum
-load-is-sum = Loads.load-is-sum
+pub load_is_sum : LoadIsSum
+load_is_sum = Loads.load_is_sum
 
-pub taken-exactly : TakenExactly
-taken-exactly = Loads.taken-exactly
+pub taken_exactly : TakenExactly
+taken_exactly = Loads.taken_exactly
 
-pub lower-do-not-count : LowerDoNotCount
-lower-do-not-count = Agreeing.lower-do-not-count
+pub lower_do_not_count : LowerDoNotCount
+lower_do_not_count = Agreeing.lower_do_not_count
 
-pub lower-do-not-delay : LowerDoNotDelay
-lower-do-not-delay = Responses.lower-do-not-delay
+pub lower_do_not_delay : LowerDoNotDelay
+lower_do_not_delay = Responses.lower_do_not_delay
 
-pub held-by-higher : HeldByHigher
-held-by-higher = Loads.held-by-higher
+pub held_by_higher : HeldByHigher
+held_by_higher = Loads.held_by_higher
 
-pub response-bounded : ResponseBounded
-response-bounded = Responses.response-bounded
+pub response_bounded : ResponseBounded
+response_bounded = Responses.response_bounded
 
-pub taken-from-release : TakenFromRelease
-taken-from-release = Turns.taken-from-release
+pub taken_from_release : TakenFromRelease
+taken_from_release = Turns.taken_from_release
 
-pub taken-once : TakenOnce
-taken-once = Turns.taken-once
+pub taken_once : TakenOnce
+taken_once = Turns.taken_once
 
-pub response-counts : ResponseCounts
-response-counts = Responses.response-counts
+pub response_counts : ResponseCounts
+response_counts = Responses.response_counts
 
-pub marked-waiting : MarkedWaiting
-marked-waiting = Responses.marked-waiting
+pub marked_waiting : MarkedWaiting
+marked_waiting = Responses.marked_waiting
 
 pub marked-past : MarkedPast
 marked-past = Responses.marked-past
 
-pub cycle-refuses : CycleRefuses
-cycle-refuses = Named.cycle-refuses
+pub cycle_refuses : CycleRefuses
+cycle_refuses = Named.cycle_refuses
 
-pub run-refuses : RunRefuses
-run-refuses = Named.run-refuses
+pub run_refuses : RunRefuses
+run_refuses = Named.run_refuses
 
-pub trd-is-least : TrdIsLeast
-trd-is-least = Equation.trd-is-least
+pub trd_is_least : TrdIsLeast
+trd_is_least = Equation.trd_is_least
 
-pub trd-given : TrdGiven
-trd-given = Equation.trd-given
+pub trd_given : TrdGiven
+trd_given = Equation.trd_given
 
 -- what a run that is done leaves in message i's place is its response
-response-left : (w : Network) (R : List ℕ) (cycles : ℕ) (X : List ℕ) (a : Answer) (X' : List ℕ) → RunOver w R cycles X a X' → a.number ≡ DONE
-    → (i : ℕ) → i < messages w → get_or X' i 0 ≡ responseOf w R cycles i
-response-left w R cycles X a X' c z i u =
+response_left : (w : Network) (R : List ℕ) (cycles : ℕ) (X : List ℕ) (a : Answer) (X' : List ℕ) → RunOver w R cycles X a X' → a.number ≡ DONE
+    → (i : ℕ) → i < messages w → get_or X' i 0 ≡ response_of w R cycles i
+response_left w R cycles X a X' c z i u =
     ap (λ (t : List ℕ). get_or t i 0) c.responses
-    ∙ ap (λ (b : Bool). get_or (cond b (written (messages w) (responseOf w R cycles) X) X) i 0) (eq-eqb a.number DONE z)
-    ∙ written_at (responseOf w R cycles) X (messages w) i u (run-sized w R cycles X c.answered z).1
+    ∙ ap (λ (b : Bool). get_or (cond b (written (messages w) (response_of w R cycles) X) X) i 0) (eq-eqb a.number DONE z)
+    ∙ written_at (response_of w R cycles) X (messages w) i u (run_sized w R cycles X c.answered z).1
 
-responses-bounded : (w : Network) (R : List ℕ) (cycles : ℕ) (X : List ℕ) (a : Answer) (X' : List ℕ) → RunOver w R cycles X a X' → a.number ≡ DONE
-    → (i : ℕ) → i < messages w → releaseOf R i + i + 1 ≤ cycles → get_or X' i 0 ≤ i + 1
-responses-bounded w R cycles X a X' c z i u long =
-    let within = (Named.run-refuses w R cycles (length X)).done-within-windows (sym (ap (λ (b : Answer). b.number) c.answered) ∙ z) i u in
-    omega (arith, response-left w R cycles X a X' c z i u, Responses.response-bounded w R cycles i within long)
+responses_bounded : (w : Network) (R : List ℕ) (cycles : ℕ) (X : List ℕ) (a : Answer) (X' : List ℕ) → RunOver w R cycles X a X' → a.number ≡ DONE
+    → (i : ℕ) → i < messages w → release_of R i + i + 1 ≤ cycles → get_or X' i 0 ≤ i + 1
+responses_bounded w R cycles X a X' c z i u long =
+    let within = (Named.run_refuses w R cycles (length X)).done_within_windows (sym (ap (λ (b : Answer). b.number) c.answered) ∙ z) i u in
+    omega (arith, response_left w R cycles X a X' c z i u, Responses.response_bounded w R cycles i within long)
 
-pub responses-left-bounded : ResponsesLeftBounded
-responses-left-bounded κ x a l c = responses-bounded _ _ _ _ a _ c
+pub responses_left_bounded : ResponsesLeftBounded
+responses_left_bounded κ x a l c = responses_bounded _ _ _ _ a _ c

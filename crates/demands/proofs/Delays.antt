@@ -12,18 +12,18 @@ use lib.ListN.{length, replicate}
 use lib.IntN.{ℤ, pos, negsuc, suc_ℤ, neg_ℤ, ◌-ℤ◌, ◌*ℤ◌}
 use lib.Signed.{◌≤ℤ◌, ◌<ℤ◌, mag}
 use Rattle.answers.specs.declared.Answer.{Answer}
-use Rattle.answers.specs.Numbers.{DONE, FRAME-OUT-OF-RANGE, LINKS-OUT-OF-RANGE, DEADLINE-OUT-OF-RANGE, DELAY-OUT-OF-RANGE}
-use Rattle.answers.specs.Limits.{maxFrame, maxLinks, maxDelay, maxDeadline, maxBits, outside, Within}
+use Rattle.answers.specs.Numbers.{DONE, FRAME_OUT_OF_RANGE, LINKS_OUT_OF_RANGE, DEADLINE_OUT_OF_RANGE, DELAY_OUT_OF_RANGE}
+use Rattle.answers.specs.Limits.{max_frame, max_links, max_delay, max_deadline, max_bits, outside, Within}
 use Rattle.answers.specs.Lowest.{lowest, IsLowest}
 use Rattle.answers.specs.Sums.{sum}
-use Rattle.answers.specs.Answers.{Rule, answer, refusal, doneWith, ◌when◌, first}
-use Rattle.answers.proofs.Ranges.{inside, within-test, either-false}
-use Rattle.answers.proofs.First.{NoneHolds, lacks, first-none, lacked, named-exactly}
-use Rattle.margins.specs.Margins.{bound, marginOf, roomOf, floorDiv, fitOf, cells_for, carriedBits, linkOutOfRange, marginRules, roomRules, fitRules, cellsRules}
-use Rattle.margins.specs.Margins.{marginAnswer, roomAnswer, fitAnswer, cellsAnswer}
-use Rattle.margins.proofs.Bounds.{bound-at-most, common-bound}
-use Rattle.margins.proofs.Times.{least-reaches, lower-fails, quotient-some}
-use Rattle.demands.specs.Delays.{BoundOfOnes, InTimeIffRoom, RoundedDown, RoomRoundsDown, lowestMargin, highestMargin, MarginInRange}
+use Rattle.answers.specs.Answers.{Rule, answer, refusal, done_with, ◌when◌, first}
+use Rattle.answers.proofs.Ranges.{inside, within_test, either_false}
+use Rattle.answers.proofs.First.{NoneHolds, lacks, first_none, lacked, named_exactly}
+use Rattle.margins.specs.Margins.{bound, margin_of, room_of, floor_div, fit_of, cells_for, carried_bits, link_out_of_range, margin_rules, room_rules, fit_rules, cells_rules}
+use Rattle.margins.specs.Margins.{margin_answer, room_answer, fit_answer, cells_answer}
+use Rattle.margins.proofs.Bounds.{bound_at_most, common_bound}
+use Rattle.margins.proofs.Times.{least_reaches, lower_fails, quotient_some}
+use Rattle.demands.specs.Delays.{BoundOfOnes, InTimeIffRoom, RoundedDown, RoomRoundsDown, lowest_margin, highest_margin, MarginInRange}
 use Rattle.demands.specs.Delays.{MarginEndsReached, Asked, NotOfALink, NamesLink, LeastTimes, FitIsLeast, CellsAreLeast}
 use Rattle.demands.proofs.Carrying.{exactly}
 
@@ -45,39 +45,39 @@ less a (suc b) = go (ltb a (suc b)) refl
 never : (h n : ℕ) → pos h ≤ℤ negsuc n → ⊥
 never h n x = x.le
 
-pub bound-of-ones : BoundOfOnes
-bound-of-ones M h = omega (arith, common-bound M h 1, mul_comm h M)
+pub bound_of_ones : BoundOfOnes
+bound_of_ones M h = omega (arith, common_bound M h 1, mul_comm h M)
 
 -- h links of delay d take no more than what is left of the deadline exactly if they fit into it so many times
-links-fit : (M h d H : ℕ) → 1 ≤ d → M ≤ H → (h ≤ (H - M) / (M + d)) ↔ (bound M (replicate h d) ≤ H)
-links-fit M h d H some w =
+links_fit : (M h d H : ℕ) → 1 ≤ d → M ≤ H → (h ≤ (H - M) / (M + d)) ↔ (bound M (replicate h d) ≤ H)
+links_fit M h d H some w =
     let law = le-div_iff_mul-le {k = M + d} {x = h} {y = H - M} (omega arith) in
-    let all = common-bound M h d in
+    let all = common_bound M h d in
     (λ x. omega (arith, law.0 x, all, mul-add h M d), λ x. law.1 (omega (arith, all, mul-add h M d)))
 
 -- of the definitions, for every frame, number of links, delay but 0 and deadline
-in-time : (M h d H : ℕ) → 1 ≤ d → (pos 0 ≤ℤ marginOf M (replicate h d) H) ↔ (pos h ≤ℤ roomOf M d H)
+in_time : (M h d H : ℕ) → 1 ≤ d → (pos 0 ≤ℤ margin_of M (replicate h d) H) ↔ (pos h ≤ℤ room_of M d H)
 unfolding Less
-in-time M h d H some = go (less H (bound M (replicate h d))) (less H M)
+in_time M h d H some = go (less H (bound M (replicate h d))) (less H M)
   where
     margin : ℤ → Type 0
     margin z = pos 0 ≤ℤ z
 
     room : ℤ → Type 0
-    room z = pos h ≤ℤ floorDiv z (M + d)
+    room z = pos h ≤ℤ floor_div z (M + d)
 
-    go : Less H (bound M (replicate h d)) → Less H M → (pos 0 ≤ℤ marginOf M (replicate h d) H) ↔ (pos h ≤ℤ roomOf M d H)
+    go : Less H (bound M (replicate h d)) → Less H M → (pos 0 ≤ℤ margin_of M (replicate h d) H) ↔ (pos h ≤ℤ room_of M d H)
     go (inl late) (inl short) = (
       λ x. absurd (never 0 (bound M (replicate h d) - suc H) (subst margin late.1 x)),
       λ x. absurd (never h ((M - suc H) / (M + d)) (subst room short.1 x)),
     )
     go (inl late) (inr wide) = (
       λ x. absurd (never 0 (bound M (replicate h d) - suc H) (subst margin late.1 x)),
-      λ x. absurd (omega (arith, (links-fit M h d H some wide.0).0 (leb→le h ((H - M) / (M + d)) (subst room wide.1 x).le), late.0)),
+      λ x. absurd (omega (arith, (links_fit M h d H some wide.0).0 (leb→le h ((H - M) / (M + d)) (subst room wide.1 x).le), late.0)),
     )
-    go (inr early) (inl short) = absurd (omega (arith, early.0, short.0, common-bound M h d, add-mul h 1 M))
+    go (inr early) (inl short) = absurd (omega (arith, early.0, short.0, common_bound M h d, add-mul h 1 M))
     go (inr early) (inr wide) = (
-      λ x. subst room (sym wide.1) (record { le = le→leb h ((H - M) / (M + d)) ((links-fit M h d H some wide.0).1 early.0) }),
+      λ x. subst room (sym wide.1) (record { le = le→leb h ((H - M) / (M + d)) ((links_fit M h d H some wide.0).1 early.0) }),
       λ x. subst margin (sym early.1) (record { le = le→leb 0 (H - bound M (replicate h d)) (omega arith) }),
     )
 
@@ -87,13 +87,13 @@ negated zero l = absurd (omega arith)
 negated (suc n) l = ap negsuc (omega arith)
 
 -- rounding down is rounding down, below zero too
-floor-law : (z : ℤ) (d : ℕ) → 0 < d → RoundedDown z d (floorDiv z d)
-floor-law (pos a) d some =
+floor_law : (z : ℤ) (d : ℕ) → 0 < d → RoundedDown z d (floor_div z d)
+floor_law (pos a) d some =
     record {
-      not-above = record { le = le→leb (a / d * d) a (omega (arith, div-add-mod' a d)) };
+      not_above = record { le = le→leb (a / d * d) a (omega (arith, div-add-mod' a d)) };
       nearest = record { lt = lt→ltb a (suc (a / d) * d) (omega (arith, div-add-mod' a d, mod-lt a some, suc-mul (a / d) d)) };
     }
-floor-law (negsuc a) d some = record { not-above = above; nearest = near (a / d) refl }
+floor_law (negsuc a) d some = record { not_above = above; nearest = near (a / d) refl }
   where
     over : a < suc (a / d) * d
     over = omega (arith, div-add-mod' a d, mod-lt a some, suc-mul (a / d) d)
@@ -111,152 +111,152 @@ floor-law (negsuc a) d some = record { not-above = above; nearest = near (a / d)
         subst (λ (z : ℤ). negsuc a <ℤ z) (sym (negated (suc q * d) some_of)) (record { lt = lt→ltb (suc q * d - 1) a (omega arith) })
 
 -- an answer that is done was refused by none of the rules
-done-rules : (rs : List Rule) (d m : ℤ) → T (lacks DONE rs) → first rs (doneWith d) ≡ doneWith m → NoneHolds rs × (d ≡ m)
-done-rules rs d m t e =
-    let none = (lacked DONE rs (doneWith d) t (ap (λ (a : Answer). a.number) e)).0 in
-    (none, ap (λ (a : Answer). a.detail) (sym (first-none rs (doneWith d) none) ∙ e))
+done_rules : (rs : List Rule) (d m : ℤ) → T (lacks DONE rs) → first rs (done_with d) ≡ done_with m → NoneHolds rs × (d ≡ m)
+done_rules rs d m t e =
+    let none = (lacked DONE rs (done_with d) t (ap (λ (a : Answer). a.number) e)).0 in
+    (none, ap (λ (a : Answer). a.detail) (sym (first_none rs (done_with d) none) ∙ e))
 
 -- a room that is answered is the room of a delay that is not 0
-room-answered : (M d H : ℕ) (q : ℤ) → roomAnswer M d H ≡ doneWith q → (1 ≤ d) × (roomOf M d H ≡ q)
-unfolding roomAnswer
-room-answered M d H q e =
-    let known = done-rules (roomRules M d H) (roomOf M d H) q tt e in
-    ((inside {low = 1} {high = maxDelay} {x = d} known.0.1.1.0).at_least, known.1)
+room_answered : (M d H : ℕ) (q : ℤ) → room_answer M d H ≡ done_with q → (1 ≤ d) × (room_of M d H ≡ q)
+unfolding room_answer
+room_answered M d H q e =
+    let known = done_rules (room_rules M d H) (room_of M d H) q tt e in
+    ((inside {low = 1} {high = max_delay} {x = d} known.0.1.1.0).at_least, known.1)
 
-pub room-rounds-down : RoomRoundsDown
-room-rounds-down κ x a l c q e = rounded _ _ _ (sym c ∙ e)
+pub room_rounds_down : RoomRoundsDown
+room_rounds_down κ x a l c q e = rounded _ _ _ (sym c ∙ e)
   where
-    rounded : (M d H : ℕ) → roomAnswer M d H ≡ doneWith q → RoundedDown (pos H -ℤ pos M) (M + d) q
+    rounded : (M d H : ℕ) → room_answer M d H ≡ done_with q → RoundedDown (pos H -ℤ pos M) (M + d) q
     rounded M d H e =
-        let known = room-answered M d H q e in
-        subst (λ (z : ℤ). RoundedDown (pos H -ℤ pos M) (M + d) z) known.1 (floor-law (pos H -ℤ pos M) (M + d) (omega (arith, known.0)))
+        let known = room_answered M d H q e in
+        subst (λ (z : ℤ). RoundedDown (pos H -ℤ pos M) (M + d) z) known.1 (floor_law (pos H -ℤ pos M) (M + d) (omega (arith, known.0)))
 
-margin-answered : (M : ℕ) (D : List ℕ) (H : ℕ) (m : ℤ) → marginAnswer M D H ≡ doneWith m → marginOf M D H ≡ m
-unfolding marginAnswer
-margin-answered M D H m e = (done-rules (marginRules M D H) (marginOf M D H) m tt e).1
+margin_answered : (M : ℕ) (D : List ℕ) (H : ℕ) (m : ℤ) → margin_answer M D H ≡ done_with m → margin_of M D H ≡ m
+unfolding margin_answer
+margin_answered M D H m e = (done_rules (margin_rules M D H) (margin_of M D H) m tt e).1
 
-pub in-time-iff-room : InTimeIffRoom
-in-time-iff-room κ x a l c κ' y b n k e f g m q p r =
-    let room = room-answered y.0 y.1.0 y.1.1.0 q (sym k ∙ r) in
+pub in_time_iff_room : InTimeIffRoom
+in_time_iff_room κ x a l c κ' y b n k e f g m q p r =
+    let room = room_answered y.0 y.1.0 y.1.1.0 q (sym k ∙ r) in
     let links = length x.1.0.now in
-    let margin : marginOf x.0 (replicate links y.1.0) x.1.1.0 ≡ m =
-    ap (λ (D : List ℕ). marginOf x.0 D x.1.1.0) (sym g) ∙ margin-answered _ _ _ m (sym c ∙ p) in
-    let within : roomOf x.0 y.1.0 x.1.1.0 ≡ q = (λ i. roomOf (e i) y.1.0 (f i)) ∙ room.1 in
-    let law = in-time x.0 links y.1.0 x.1.1.0 room.0 in (
+    let margin : margin_of x.0 (replicate links y.1.0) x.1.1.0 ≡ m =
+    ap (λ (D : List ℕ). margin_of x.0 D x.1.1.0) (sym g) ∙ margin_answered _ _ _ m (sym c ∙ p) in
+    let within : room_of x.0 y.1.0 x.1.1.0 ≡ q = (λ i. room_of (e i) y.1.0 (f i)) ∙ room.1 in
+    let law = in_time x.0 links y.1.0 x.1.1.0 room.0 in (
       λ h. subst (λ (z : ℤ). pos links ≤ℤ z) within (law.0 (subst (λ (z : ℤ). pos 0 ≤ℤ z) (sym margin) h)),
       λ h. subst (λ (z : ℤ). pos 0 ≤ℤ z) margin (law.1 (subst (λ (z : ℤ). pos links ≤ℤ z) (sym within) h)),
     )
 
-margin-inside : (M : ℕ) (D : List ℕ) (H : ℕ) (m : ℤ) → marginAnswer M D H ≡ doneWith m → (lowestMargin ≤ℤ m) × (m ≤ℤ highestMargin)
-unfolding marginAnswer Less
-margin-inside M D H m e = subst (λ (z : ℤ). (lowestMargin ≤ℤ z) × (z ≤ℤ highestMargin)) known.1 (go (less H (bound M D)))
+margin_inside : (M : ℕ) (D : List ℕ) (H : ℕ) (m : ℤ) → margin_answer M D H ≡ done_with m → (lowest_margin ≤ℤ m) × (m ≤ℤ highest_margin)
+unfolding margin_answer Less
+margin_inside M D H m e = subst (λ (z : ℤ). (lowest_margin ≤ℤ z) × (z ≤ℤ highest_margin)) known.1 (go (less H (bound M D)))
   where
-    known : NoneHolds (marginRules M D H) × (marginOf M D H ≡ m)
-    known = done-rules (marginRules M D H) (marginOf M D H) m tt e
+    known : NoneHolds (margin_rules M D H) × (margin_of M D H ≡ m)
+    known = done_rules (margin_rules M D H) (margin_of M D H) m tt e
 
-    frames : Within 1 maxFrame M
+    frames : Within 1 max_frame M
     frames = inside known.0.0
 
-    links : Within 0 maxLinks (length D)
+    links : Within 0 max_links (length D)
     links = inside known.0.1.0
 
-    deadlines : Within 0 maxDeadline H
+    deadlines : Within 0 max_deadline H
     deadlines = inside known.0.1.1.0
 
-    most : bound M D ≤ (maxLinks + 1) * maxFrame + maxLinks * maxDelay
-    most = bound-at-most M D frames.at_most links.at_most known.0.1.1.1.0
+    most : bound M D ≤ (max_links + 1) * max_frame + max_links * max_delay
+    most = bound_at_most M D frames.at_most links.at_most known.0.1.1.1.0
 
-    go : Less H (bound M D) → (lowestMargin ≤ℤ marginOf M D H) × (marginOf M D H ≤ℤ highestMargin)
+    go : Less H (bound M D) → (lowest_margin ≤ℤ margin_of M D H) × (margin_of M D H ≤ℤ highest_margin)
     go (inl late) =
-        subst (λ (z : ℤ). (lowestMargin ≤ℤ z) × (z ≤ℤ highestMargin)) (sym late.1)
+        subst (λ (z : ℤ). (lowest_margin ≤ℤ z) × (z ≤ℤ highest_margin)) (sym late.1)
         (record { le = le→leb (bound M D - suc H) _ (omega (arith, most)) }, record { le = tt })
     go (inr early) =
-        subst (λ (z : ℤ). (lowestMargin ≤ℤ z) × (z ≤ℤ highestMargin)) (sym early.1)
+        subst (λ (z : ℤ). (lowest_margin ≤ℤ z) × (z ≤ℤ highest_margin)) (sym early.1)
         (record { le = tt }, record { le = le→leb (H - bound M D) _ (omega (arith, frames, deadlines, add-mul (length D) 1 M)) })
 
-pub margin-in-range : MarginInRange
-margin-in-range κ x a l c m e = margin-inside _ _ _ m (sym c ∙ e)
+pub margin_in_range : MarginInRange
+margin_in_range κ x a l c m e = margin_inside _ _ _ m (sym c ∙ e)
 
-pub margin-ends-reached : MarginEndsReached
-unfolding marginAnswer lowest sum
-margin-ends-reached = (refl, refl)
+pub margin_ends_reached : MarginEndsReached
+unfolding margin_answer lowest sum
+margin_ends_reached = (refl, refl)
 
 -- what refusal 25 tests of a link is what it says of it
-outside-says : (D : List ℕ) (link : ℕ) → linkOutOfRange D link ≡ true → NotOfALink D link
-outside-says D link e w = true≢false (sym e ∙ within-test w)
+outside_says : (D : List ℕ) (link : ℕ) → link_out_of_range D link ≡ true → NotOfALink D link
+outside_says D link e w = true≢false (sym e ∙ within_test w)
 
-outside-means : (D : List ℕ) (link : ℕ) → NotOfALink D link → linkOutOfRange D link ≡ true
-outside-means D link h = go (linkOutOfRange D link) refl
+outside_means : (D : List ℕ) (link : ℕ) → NotOfALink D link → link_out_of_range D link ≡ true
+outside_means D link h = go (link_out_of_range D link) refl
   where
-    go : (b : Bool) → linkOutOfRange D link ≡ b → b ≡ true
+    go : (b : Bool) → link_out_of_range D link ≡ b → b ≡ true
     go true e = refl
     go false e = absurd (h (inside e))
 
-link-named : (M : ℕ) (D : List ℕ) (H k : ℕ)
-    → (marginAnswer M D H ≡ answer DELAY-OUT-OF-RANGE (pos k)) ↔ (Asked M D H × IsLowest 0 (length D) (NotOfALink D) k)
-unfolding marginAnswer
-link-named M D H k = (λ e. let h = law.0 e in (asked h.0, h.1), λ h. law.1 (not-refused h.0, h.1))
+link_named : (M : ℕ) (D : List ℕ) (H k : ℕ)
+    → (margin_answer M D H ≡ answer DELAY_OUT_OF_RANGE (pos k)) ↔ (Asked M D H × IsLowest 0 (length D) (NotOfALink D) k)
+unfolding margin_answer
+link_named M D H k = (λ e. let h = law.0 e in (asked h.0, h.1), λ h. law.1 (not_refused h.0, h.1))
   where
     before : List Rule
     before =
-        (refusal FRAME-OUT-OF-RANGE when outside 1 maxFrame M)
-        ∷ (refusal LINKS-OUT-OF-RANGE when outside 0 maxLinks (length D))
-        ∷ (refusal DEADLINE-OUT-OF-RANGE when outside 0 maxDeadline H)
+        (refusal FRAME_OUT_OF_RANGE when outside 1 max_frame M)
+        ∷ (refusal LINKS_OUT_OF_RANGE when outside 0 max_links (length D))
+        ∷ (refusal DEADLINE_OUT_OF_RANGE when outside 0 max_deadline H)
         ∷ []
 
     asked : NoneHolds before → Asked M D H
-    asked h = record { frame-in-range = inside h.0; links-in-range = inside h.1.0; deadline-in-range = inside h.1.1.0 }
+    asked h = record { frame_in_range = inside h.0; links_in_range = inside h.1.0; deadline_in_range = inside h.1.1.0 }
 
-    not-refused : Asked M D H → NoneHolds before
-    not-refused a = (within-test a.frame-in-range, (within-test a.links-in-range, (within-test a.deadline-in-range, tt)))
+    not_refused : Asked M D H → NoneHolds before
+    not_refused a = (within_test a.frame_in_range, (within_test a.links_in_range, (within_test a.deadline_in_range, tt)))
 
-    law : (marginAnswer M D H ≡ answer DELAY-OUT-OF-RANGE (pos k)) ↔ (NoneHolds before × IsLowest 0 (length D) (NotOfALink D) k)
+    law : (margin_answer M D H ≡ answer DELAY_OUT_OF_RANGE (pos k)) ↔ (NoneHolds before × IsLowest 0 (length D) (NotOfALink D) k)
     law =
-        named-exactly DELAY-OUT-OF-RANGE 0 (length D) (linkOutOfRange D) (NotOfALink D) (λ j a u. outside-says D j) (λ j a u. outside-means D j)
-        before [] (doneWith (marginOf M D H)) k tt tt tt
+        named_exactly DELAY_OUT_OF_RANGE 0 (length D) (link_out_of_range D) (NotOfALink D) (λ j a u. outside_says D j) (λ j a u. outside_means D j)
+        before [] (done_with (margin_of M D H)) k tt tt tt
 
-pub names-link : NamesLink
-names-link κ x a l c k = exactly c (link-named _ _ _ k)
+pub names_link : NamesLink
+names_link κ x a l c k = exactly c (link_named _ _ _ k)
 
-least-fit : (M P C c : ℕ) → fitAnswer M P C ≡ doneWith (pos c) → LeastTimes (P / M) C c
-unfolding fitAnswer
-least-fit M P C c e =
+least_fit : (M P C c : ℕ) → fit_answer M P C ≡ done_with (pos c) → LeastTimes (P / M) C c
+unfolding fit_answer
+least_fit M P C c e =
     record {
-      enough = subst (λ (x : ℕ). C ≤ x * (P / M)) same (least-reaches (P / M) C some cells);
-      no_less = λ b l. lower-fails (P / M) C some cells b (omega (arith, same));
+      enough = subst (λ (x : ℕ). C ≤ x * (P / M)) same (least_reaches (P / M) C some cells);
+      no_less = λ b l. lower_fails (P / M) C some cells b (omega (arith, same));
     }
   where
-    known : NoneHolds (fitRules M P C) × (pos (fitOf M P C) ≡ pos c)
-    known = done-rules (fitRules M P C) (pos (fitOf M P C)) (pos c) tt e
+    known : NoneHolds (fit_rules M P C) × (pos (fit_of M P C) ≡ pos c)
+    known = done_rules (fit_rules M P C) (pos (fit_of M P C)) (pos c) tt e
 
-    same : fitOf M P C ≡ c
+    same : fit_of M P C ≡ c
     same = ap mag known.1
 
     some : 0 < P / M
-    some = quotient-some P M (inside known.0.0).at_least (inside known.0.1.0).at_least
+    some = quotient_some P M (inside known.0.0).at_least (inside known.0.1.0).at_least
 
     cells : 0 < C
-    cells = omega (arith, eqb-false C 0 (either-false (eqb C 0) (ltb M (fitOf M P C)) known.0.1.1.0).0)
+    cells = omega (arith, eqb-false C 0 (either_false (eqb C 0) (ltb M (fit_of M P C)) known.0.1.1.0).0)
 
-pub fit-is-least : FitIsLeast
-fit-is-least κ x a l d c e = least-fit _ _ _ c (sym d ∙ e)
+pub fit_is_least : FitIsLeast
+fit_is_least κ x a l d c e = least_fit _ _ _ c (sym d ∙ e)
 
-least-cells : (bits c : ℕ) → cellsAnswer bits ≡ doneWith (pos c) → LeastTimes carriedBits bits c
-unfolding cellsAnswer
-least-cells bits c e =
+least_cells : (bits c : ℕ) → cells_answer bits ≡ done_with (pos c) → LeastTimes carried_bits bits c
+unfolding cells_answer
+least_cells bits c e =
     record {
-      enough = subst (λ (x : ℕ). bits ≤ x * carriedBits) same (least-reaches carriedBits bits (omega arith) some);
-      no_less = λ b l. lower-fails carriedBits bits (omega arith) some b (omega (arith, same));
+      enough = subst (λ (x : ℕ). bits ≤ x * carried_bits) same (least_reaches carried_bits bits (omega arith) some);
+      no_less = λ b l. lower_fails carried_bits bits (omega arith) some b (omega (arith, same));
     }
   where
-    known : NoneHolds (cellsRules bits) × (pos (cells_for bits) ≡ pos c)
-    known = done-rules (cellsRules bits) (pos (cells_for bits)) (pos c) tt e
+    known : NoneHolds (cells_rules bits) × (pos (cells_for bits) ≡ pos c)
+    known = done_rules (cells_rules bits) (pos (cells_for bits)) (pos c) tt e
 
     same : cells_for bits ≡ c
     same = ap mag known.1
 
     some : 0 < bits
-    some = (inside {low = 1} {high = maxBits} known.0.0).at_least
+    some = (inside {low = 1} {high = max_bits} known.0.0).at_least
 
-pub cells-are-least : CellsAreLeast
-cells-are-least κ x a l d c e = least-cells _ c (sym d ∙ e)
+pub cells_are_least : CellsAreLeast
+cells_are_least κ x a l d c e = least_cells _ c (sym d ∙ e)

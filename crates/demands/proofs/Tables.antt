@@ -10,199 +10,199 @@ use lib.ListN.{length, take, drop}
 use lib.IntN.{pos}
 use lib.Dec.{ltb, eqb}
 use Rattle.answers.specs.declared.Answer.{Answer}
-use Rattle.answers.specs.Numbers.{DONE, TABLE-TOO-SHORT, ENTRY-NOT-OF-ROW, INPUT-TWICE-IN-SLOT, COUNT-WRONG}
+use Rattle.answers.specs.Numbers.{DONE, TABLE_TOO_SHORT, ENTRY_NOT_OF_ROW, INPUT_TWICE_IN_SLOT, COUNT_WRONG}
 use Rattle.answers.specs.Lowest.{IsLowest}
-use Rattle.answers.specs.Answers.{Rule, answer, refusal, doneWith, ◌when◌, namingLowest}
-use Rattle.answers.proofs.First.{NoneHolds, none_first, none-later, none_both, done-exactly, first-none, named-exactly, not_named, none_named}
-use Rattle.flows.specs.Flows.{flowCount, listRules}
-use Rattle.flows.proofs.Shape.{in-range, not-due}
+use Rattle.answers.specs.Answers.{Rule, answer, refusal, done_with, ◌when◌, naming_lowest}
+use Rattle.answers.proofs.First.{NoneHolds, none_first, none_later, none_both, done_exactly, first_none, named_exactly, not_named, none_named}
+use Rattle.flows.specs.Flows.{flow_count, list_rules}
+use Rattle.flows.proofs.Shape.{in_range, not_due}
 use Rattle.tables.specs.Accepted.{Accepted, NotOfRow, InputTwice, CountWrong}
-use Rattle.tables.specs.Check.{notOfRow, inputTwice, countWrong, entryRules, checkRules, checkAnswer}
-use Rattle.tables.specs.Row.{rowAnswer, rowThere, rowPart}
+use Rattle.tables.specs.Check.{not_of_row, input_twice, count_wrong, entry_rules, check_rules, check_answer}
+use Rattle.tables.specs.Row.{row_answer, row_there, row_part}
 use Rattle.tables.proofs.Judgement
 use Rattle.tables.proofs.Rows.{some_bytes}
-use Rattle.tables.proofs.Counting.{accepted-fits}
+use Rattle.tables.proofs.Counting.{accepted_fits}
 use Rattle.demands.specs.Tables.{Judged, DoneIffAccepted, NamesPlace, NamesSlot, NamesFlow, BytesPastIgnored, AcceptedFits, RowThereIffDone}
 use Rattle.demands.proofs.Carrying.{exactly}
-use Rattle.demands.proofs.BytesPast.{answered-alike}
+use Rattle.demands.proofs.BytesPast.{answered_alike}
 
 module _ (M N : ℕ) (L T : List ℕ) where
   short : Rule
-  short = refusal TABLE-TOO-SHORT when ltb (length T) (N * M)
+  short = refusal TABLE_TOO_SHORT when ltb (length T) (N * M)
 
-  judged : NoneHolds (listRules M N L ++ short ∷ []) → Judged M N L T
+  judged : NoneHolds (list_rules M N L ++ short ∷ []) → Judged M N L T
   unfolding short
   judged h =
       record {
-        in-range = in-range M N L (none_first (listRules M N L) (short ∷ []) h);
-        long-enough = ltb-false _ _ (none-later (listRules M N L) (short ∷ []) h).0;
+        in_range = in_range M N L (none_first (list_rules M N L) (short ∷ []) h);
+        long_enough = ltb-false _ _ (none_later (list_rules M N L) (short ∷ []) h).0;
       }
 
-  not-refused : Judged M N L T → NoneHolds (listRules M N L ++ short ∷ [])
+  not_refused : Judged M N L T → NoneHolds (list_rules M N L ++ short ∷ [])
   unfolding short
-  not-refused j = none_both (listRules M N L) (short ∷ []) (not-due M N L j.in-range) (le-ltb _ _ j.long-enough, tt)
+  not_refused j = none_both (list_rules M N L) (short ∷ []) (not_due M N L j.in_range) (le-ltb _ _ j.long_enough, tt)
 
-done-exactly-if : (M N : ℕ) (L T : List ℕ) → (checkAnswer M N L T ≡ doneWith (pos 0)) ↔ (Judged M N L T × Accepted M N L T)
-unfolding checkAnswer short
-done-exactly-if M N L T = (out, back)
+done_exactly_if : (M N : ℕ) (L T : List ℕ) → (check_answer M N L T ≡ done_with (pos 0)) ↔ (Judged M N L T × Accepted M N L T)
+unfolding check_answer short
+done_exactly_if M N L T = (out, back)
   where
     start : List Rule
-    start = listRules M N L ++ short M N L T ∷ []
+    start = list_rules M N L ++ short M N L T ∷ []
 
-    out : checkAnswer M N L T ≡ doneWith (pos 0) → Judged M N L T × Accepted M N L T
+    out : check_answer M N L T ≡ done_with (pos 0) → Judged M N L T × Accepted M N L T
     out e =
-        let none = (done-exactly DONE (checkRules M N L T) (doneWith (pos 0)) refl tt).0 (ap (λ (a : Answer). a.number) e) in
-        let j = judged M N L T (none_first start (entryRules M N L T) none) in
-        (j, Judgement.accepted-then M N L T (none-later start (entryRules M N L T) none))
+        let none = (done_exactly DONE (check_rules M N L T) (done_with (pos 0)) refl tt).0 (ap (λ (a : Answer). a.number) e) in
+        let j = judged M N L T (none_first start (entry_rules M N L T) none) in
+        (j, Judgement.accepted_then M N L T (none_later start (entry_rules M N L T) none))
 
-    back : Judged M N L T × Accepted M N L T → checkAnswer M N L T ≡ doneWith (pos 0)
+    back : Judged M N L T × Accepted M N L T → check_answer M N L T ≡ done_with (pos 0)
     back h =
-        first-none (checkRules M N L T) (doneWith (pos 0))
-        (none_both start (entryRules M N L T) (not-refused M N L T h.0) (Judgement.nothing-due M N L T h.1))
+        first_none (check_rules M N L T) (done_with (pos 0))
+        (none_both start (entry_rules M N L T) (not_refused M N L T h.0) (Judgement.nothing_due M N L T h.1))
 
-pub done-iff-accepted : DoneIffAccepted
-done-iff-accepted κ x a l c = exactly c (done-exactly-if _ _ _ _)
+pub done_iff_accepted : DoneIffAccepted
+done_iff_accepted κ x a l c = exactly c (done_exactly_if _ _ _ _)
 
 -- the three refusals of entries, each behind those before it
 module _ (M N : ℕ) (L T : List ℕ) where
   places : Rule
-  places = namingLowest ENTRY-NOT-OF-ROW 0 (N * M) (notOfRow M L T)
+  places = naming_lowest ENTRY_NOT_OF_ROW 0 (N * M) (not_of_row M L T)
 
   slots : Rule
-  slots = namingLowest INPUT-TWICE-IN-SLOT 0 M (inputTwice M N L T)
+  slots = naming_lowest INPUT_TWICE_IN_SLOT 0 M (input_twice M N L T)
 
   flows : Rule
-  flows = namingLowest COUNT-WRONG 1 (flowCount L) (countWrong M N L T)
+  flows = naming_lowest COUNT_WRONG 1 (flow_count L) (count_wrong M N L T)
 
   no_place : NoneHolds (places ∷ []) → (p : ℕ) → p < N * M → NotOfRow M L T p → ⊥
   unfolding places
   no_place h p u =
-      not_named ENTRY-NOT-OF-ROW 0 (N * M) (notOfRow M L T) (NotOfRow M L T) (λ k a w. Judgement.not-of-row-says M N L T k)
-      (λ k a w. Judgement.not-of-row-means M N L T k) h.0 p (omega arith) (omega arith)
+      not_named ENTRY_NOT_OF_ROW 0 (N * M) (not_of_row M L T) (NotOfRow M L T) (λ k a w. Judgement.not_of_row_says M N L T k)
+      (λ k a w. Judgement.not_of_row_means M N L T k) h.0 p (omega arith) (omega arith)
 
   place_none : ((p : ℕ) → p < N * M → NotOfRow M L T p → ⊥) → NoneHolds (places ∷ [])
   unfolding places
   place_none h = (
-    none_named ENTRY-NOT-OF-ROW 0 (N * M) (notOfRow M L T) (NotOfRow M L T) (λ k a w. Judgement.not-of-row-says M N L T k)
-        (λ k a w. Judgement.not-of-row-means M N L T k) (λ k a u. h k (omega arith)),
+    none_named ENTRY_NOT_OF_ROW 0 (N * M) (not_of_row M L T) (NotOfRow M L T) (λ k a w. Judgement.not_of_row_says M N L T k)
+        (λ k a w. Judgement.not_of_row_means M N L T k) (λ k a u. h k (omega arith)),
     tt,
   )
 
   no_slot : NoneHolds (slots ∷ []) → (s : ℕ) → s < M → InputTwice M N L T s → ⊥
   unfolding slots
   no_slot h s u =
-      not_named INPUT-TWICE-IN-SLOT 0 M (inputTwice M N L T) (InputTwice M N L T) (λ k a w. Judgement.twice-says M N L T k)
-      (λ k a w. Judgement.twice-means M N L T k (omega arith)) h.0 s (omega arith) (omega arith)
+      not_named INPUT_TWICE_IN_SLOT 0 M (input_twice M N L T) (InputTwice M N L T) (λ k a w. Judgement.twice_says M N L T k)
+      (λ k a w. Judgement.twice_means M N L T k (omega arith)) h.0 s (omega arith) (omega arith)
 
-  slot-none : ((s : ℕ) → s < M → InputTwice M N L T s → ⊥) → NoneHolds (slots ∷ [])
+  slot_none : ((s : ℕ) → s < M → InputTwice M N L T s → ⊥) → NoneHolds (slots ∷ [])
   unfolding slots
-  slot-none h = (
-    none_named INPUT-TWICE-IN-SLOT 0 M (inputTwice M N L T) (InputTwice M N L T) (λ k a w. Judgement.twice-says M N L T k)
-        (λ k a w. Judgement.twice-means M N L T k (omega arith)) (λ k a u. h k (omega arith)),
+  slot_none h = (
+    none_named INPUT_TWICE_IN_SLOT 0 M (input_twice M N L T) (InputTwice M N L T) (λ k a w. Judgement.twice_says M N L T k)
+        (λ k a w. Judgement.twice_means M N L T k (omega arith)) (λ k a u. h k (omega arith)),
     tt,
   )
 
-place-named : (M N : ℕ) (L T : List ℕ) (p : ℕ)
-    → (checkAnswer M N L T ≡ answer ENTRY-NOT-OF-ROW (pos p)) ↔ (Judged M N L T × IsLowest 0 (N * M) (NotOfRow M L T) p)
-unfolding checkAnswer short places slots flows
-place-named M N L T p = (λ e. let h = law.0 e in (judged M N L T h.0, h.1), λ h. law.1 (not-refused M N L T h.0, h.1))
+place_named : (M N : ℕ) (L T : List ℕ) (p : ℕ)
+    → (check_answer M N L T ≡ answer ENTRY_NOT_OF_ROW (pos p)) ↔ (Judged M N L T × IsLowest 0 (N * M) (NotOfRow M L T) p)
+unfolding check_answer short places slots flows
+place_named M N L T p = (λ e. let h = law.0 e in (judged M N L T h.0, h.1), λ h. law.1 (not_refused M N L T h.0, h.1))
   where
-    law : (checkAnswer M N L T ≡ answer ENTRY-NOT-OF-ROW (pos p)) ↔ (NoneHolds (listRules M N L ++ short M N L T ∷ []) × IsLowest 0 (N * M) (NotOfRow M L T) p)
+    law : (check_answer M N L T ≡ answer ENTRY_NOT_OF_ROW (pos p)) ↔ (NoneHolds (list_rules M N L ++ short M N L T ∷ []) × IsLowest 0 (N * M) (NotOfRow M L T) p)
     law =
-        named-exactly ENTRY-NOT-OF-ROW 0 (N * M) (notOfRow M L T) (NotOfRow M L T) (λ k a w. Judgement.not-of-row-says M N L T k)
-        (λ k a w. Judgement.not-of-row-means M N L T k) (listRules M N L ++ short M N L T ∷ []) (slots M N L T ∷ flows M N L T ∷ [])
-        (doneWith (pos 0)) p tt tt tt
+        named_exactly ENTRY_NOT_OF_ROW 0 (N * M) (not_of_row M L T) (NotOfRow M L T) (λ k a w. Judgement.not_of_row_says M N L T k)
+        (λ k a w. Judgement.not_of_row_means M N L T k) (list_rules M N L ++ short M N L T ∷ []) (slots M N L T ∷ flows M N L T ∷ [])
+        (done_with (pos 0)) p tt tt tt
 
-pub names-place : NamesPlace
-names-place κ x a l c p = exactly c (place-named _ _ _ _ p)
+pub names_place : NamesPlace
+names_place κ x a l c p = exactly c (place_named _ _ _ _ p)
 
-slot-named : (M N : ℕ) (L T : List ℕ) (s : ℕ)
-    → (checkAnswer M N L T ≡ answer INPUT-TWICE-IN-SLOT (pos s))
+slot_named : (M N : ℕ) (L T : List ℕ) (s : ℕ)
+    → (check_answer M N L T ≡ answer INPUT_TWICE_IN_SLOT (pos s))
     ↔ (Judged M N L T × ((p : ℕ) → p < N * M → NotOfRow M L T p → ⊥) × IsLowest 0 M (InputTwice M N L T) s)
-unfolding checkAnswer short places slots flows
-slot-named M N L T s = (out, λ h. law.1 (none_both start (places M N L T ∷ []) (not-refused M N L T h.0) (place_none M N L T h.1), h.2))
+unfolding check_answer short places slots flows
+slot_named M N L T s = (out, λ h. law.1 (none_both start (places M N L T ∷ []) (not_refused M N L T h.0) (place_none M N L T h.1), h.2))
   where
     start : List Rule
-    start = listRules M N L ++ short M N L T ∷ []
+    start = list_rules M N L ++ short M N L T ∷ []
 
-    law : (checkAnswer M N L T ≡ answer INPUT-TWICE-IN-SLOT (pos s)) ↔ (NoneHolds (start ++ places M N L T ∷ []) × IsLowest 0 M (InputTwice M N L T) s)
+    law : (check_answer M N L T ≡ answer INPUT_TWICE_IN_SLOT (pos s)) ↔ (NoneHolds (start ++ places M N L T ∷ []) × IsLowest 0 M (InputTwice M N L T) s)
     law =
-        named-exactly INPUT-TWICE-IN-SLOT 0 M (inputTwice M N L T) (InputTwice M N L T) (λ k a w. Judgement.twice-says M N L T k)
-        (λ k a w. Judgement.twice-means M N L T k (omega arith)) (start ++ places M N L T ∷ []) (flows M N L T ∷ []) (doneWith (pos 0)) s tt tt tt
+        named_exactly INPUT_TWICE_IN_SLOT 0 M (input_twice M N L T) (InputTwice M N L T) (λ k a w. Judgement.twice_says M N L T k)
+        (λ k a w. Judgement.twice_means M N L T k (omega arith)) (start ++ places M N L T ∷ []) (flows M N L T ∷ []) (done_with (pos 0)) s tt tt tt
 
-    out : checkAnswer M N L T ≡ answer INPUT-TWICE-IN-SLOT (pos s)
+    out : check_answer M N L T ≡ answer INPUT_TWICE_IN_SLOT (pos s)
         → Judged M N L T × ((p : ℕ) → p < N * M → NotOfRow M L T p → ⊥) × IsLowest 0 M (InputTwice M N L T) s
     out e =
         let h = law.0 e in
-        (judged M N L T (none_first start (places M N L T ∷ []) h.0), no_place M N L T (none-later start (places M N L T ∷ []) h.0), h.1)
+        (judged M N L T (none_first start (places M N L T ∷ []) h.0), no_place M N L T (none_later start (places M N L T ∷ []) h.0), h.1)
 
-pub names-slot : NamesSlot
-names-slot κ x a l c s = exactly c (slot-named _ _ _ _ s)
+pub names_slot : NamesSlot
+names_slot κ x a l c s = exactly c (slot_named _ _ _ _ s)
 
-flow-named : (M N : ℕ) (L T : List ℕ) (k : ℕ)
-    → (checkAnswer M N L T ≡ answer COUNT-WRONG (pos k))
+flow_named : (M N : ℕ) (L T : List ℕ) (k : ℕ)
+    → (check_answer M N L T ≡ answer COUNT_WRONG (pos k))
     ↔ (Judged M N L T
     × ((p : ℕ) → p < N * M → NotOfRow M L T p → ⊥)
     × ((s : ℕ) → s < M → InputTwice M N L T s → ⊥)
-    × IsLowest 1 (flowCount L) (CountWrong M N L T) k)
-unfolding checkAnswer short places slots flows
-flow-named M N L T k = (
+    × IsLowest 1 (flow_count L) (CountWrong M N L T) k)
+unfolding check_answer short places slots flows
+flow_named M N L T k = (
   out,
   λ h.
       law.1 (
-        none_both start (places M N L T ∷ slots M N L T ∷ []) (not-refused M N L T h.0)
-            ((place_none M N L T h.1).0, ((slot-none M N L T h.2).0, tt)),
+        none_both start (places M N L T ∷ slots M N L T ∷ []) (not_refused M N L T h.0)
+            ((place_none M N L T h.1).0, ((slot_none M N L T h.2).0, tt)),
         h.3,
       ),
 )
   where
     start : List Rule
-    start = listRules M N L ++ short M N L T ∷ []
+    start = list_rules M N L ++ short M N L T ∷ []
 
     before : List Rule
     before = places M N L T ∷ slots M N L T ∷ []
 
-    law : (checkAnswer M N L T ≡ answer COUNT-WRONG (pos k)) ↔ (NoneHolds (start ++ before) × IsLowest 1 (flowCount L) (CountWrong M N L T) k)
+    law : (check_answer M N L T ≡ answer COUNT_WRONG (pos k)) ↔ (NoneHolds (start ++ before) × IsLowest 1 (flow_count L) (CountWrong M N L T) k)
     law =
-        named-exactly COUNT-WRONG 1 (flowCount L) (countWrong M N L T) (CountWrong M N L T) (λ k a w. Judgement.count-wrong-says M N L T k)
-        (λ k a w. Judgement.count-wrong-means M N L T k) (start ++ before) [] (doneWith (pos 0)) k tt tt tt
+        named_exactly COUNT_WRONG 1 (flow_count L) (count_wrong M N L T) (CountWrong M N L T) (λ k a w. Judgement.count_wrong_says M N L T k)
+        (λ k a w. Judgement.count_wrong_means M N L T k) (start ++ before) [] (done_with (pos 0)) k tt tt tt
 
-    out : checkAnswer M N L T ≡ answer COUNT-WRONG (pos k)
+    out : check_answer M N L T ≡ answer COUNT_WRONG (pos k)
         → Judged M N L T
         × ((p : ℕ) → p < N * M → NotOfRow M L T p → ⊥)
         × ((s : ℕ) → s < M → InputTwice M N L T s → ⊥)
-        × IsLowest 1 (flowCount L) (CountWrong M N L T) k
+        × IsLowest 1 (flow_count L) (CountWrong M N L T) k
     out e =
         let h = law.0 e in
-        let wrong = none-later start before h.0 in
+        let wrong = none_later start before h.0 in
         (judged M N L T (none_first start before h.0), no_place M N L T (wrong.0, tt), no_slot M N L T (wrong.1.0, tt), h.1)
 
-pub names-flow : NamesFlow
-names-flow κ x a l c k = exactly c (flow-named _ _ _ _ k)
+pub names_flow : NamesFlow
+names_flow κ x a l c k = exactly c (flow_named _ _ _ _ k)
 
-pub bytes-past-ignored : BytesPastIgnored
-bytes-past-ignored κ x a l c κ' y b m d e f g t u same =
-    let alike : checkAnswer y.0 y.1.0 y.1.1.0.now y.1.1.1.0.now ≡ checkAnswer x.0 x.1.0 x.1.1.0.now y.1.1.1.0.now =
-    λ i. checkAnswer (sym e i) (sym f i) (sym g i) y.1.1.1.0.now in
-    c ∙ answered-alike _ _ _ _ _ same t u ∙ sym (d ∙ alike)
+pub bytes_past_ignored : BytesPastIgnored
+bytes_past_ignored κ x a l c κ' y b m d e f g t u same =
+    let alike : check_answer y.0 y.1.0 y.1.1.0.now y.1.1.1.0.now ≡ check_answer x.0 x.1.0 x.1.1.0.now y.1.1.1.0.now =
+    λ i. check_answer (sym e i) (sym f i) (sym g i) y.1.1.1.0.now in
+    c ∙ answered_alike _ _ _ _ _ same t u ∙ sym (d ∙ alike)
 
-there-exactly : (M N : ℕ) (T : List ℕ) (j : ℕ) → ((rowAnswer M N (length T) j).number ≡ DONE) ↔ (rowPart M N T j ≡ [] → ⊥)
-there-exactly M N T j = (λ d. some_bytes M N T j (rowAnswer M N (length T) j) refl d, back)
+there_exactly : (M N : ℕ) (T : List ℕ) (j : ℕ) → ((row_answer M N (length T) j).number ≡ DONE) ↔ (row_part M N T j ≡ [] → ⊥)
+there_exactly M N T j = (λ d. some_bytes M N T j (row_answer M N (length T) j) refl d, back)
   where
-    back : (rowPart M N T j ≡ [] → ⊥) → (rowAnswer M N (length T) j).number ≡ DONE
-    back h = go (rowThere M N (length T) j) refl
+    back : (row_part M N T j ≡ [] → ⊥) → (row_answer M N (length T) j).number ≡ DONE
+    back h = go (row_there M N (length T) j) refl
       where
-        go : (b : Bool) → rowThere M N (length T) j ≡ b → (rowAnswer M N (length T) j).number ≡ DONE
+        go : (b : Bool) → row_there M N (length T) j ≡ b → (row_answer M N (length T) j).number ≡ DONE
         go true e = eqb-true _ _ e
         go false e = absurd (h (ap (λ (b : Bool). cond b (take M (drop ((j - 1) * M) T)) []) e))
 
-pub row-there-iff-done : RowThereIffDone
-row-there-iff-done κ x part l c κ' y a m d e f g h =
-    let alike : rowAnswer y.0 y.1.0 (length y.1.1.0.now) y.1.1.1.0 ≡ rowAnswer x.0 x.1.0 (length x.1.1.0.now) x.1.1.1.0 =
-    λ i. rowAnswer (sym e i) (sym f i) (length (sym g i)) (sym h i) in
-    let law = there-exactly x.0 x.1.0 x.1.1.0.now x.1.1.1.0 in
+pub row_there_iff_done : RowThereIffDone
+row_there_iff_done κ x part l c κ' y a m d e f g h =
+    let alike : row_answer y.0 y.1.0 (length y.1.1.0.now) y.1.1.1.0 ≡ row_answer x.0 x.1.0 (length x.1.1.0.now) x.1.1.1.0 =
+    λ i. row_answer (sym e i) (sym f i) (length (sym g i)) (sym h i) in
+    let law = there_exactly x.0 x.1.0 x.1.1.0.now x.1.1.1.0 in
     let number = ap (λ (b : Answer). b.number) (d ∙ alike) in
     (λ z p. law.0 (sym number ∙ z) (sym c.0 ∙ p), λ z. number ∙ law.1 (λ p. z (c.0 ∙ p)))
 
-pub accepted-asks-no-more : AcceptedFits
-accepted-asks-no-more M N L T acc = accepted-fits M N L T acc
+pub accepted_asks_no_more : AcceptedFits
+accepted_asks_no_more M N L T acc = accepted_fits M N L T acc

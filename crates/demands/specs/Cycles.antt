@@ -4,7 +4,7 @@
 use Rattle.std.specs.Prelude.{ℕ, ◌+◌, ◌≤◌, ◌<◌, ◌≡◌, get_or}
 use Rattle.answers.specs.Numbers.{DONE}
 use Rattle.shore.specs.Cycle.{messages}
-use Rattle.shore.specs.Run.{releaseOf}
+use Rattle.shore.specs.Run.{release_of}
 use Rattle.demands.specs.Calls.{EveryRun}
 -- no link's load is above its window in any cycle, whichever messages are ready; and the load is the sum of the sizes taken on the link
 pub use Rattle.shore.specs.HouseRule.{LoadWithinWindow, LoadIsSum}
@@ -30,4 +30,4 @@ pub use Rattle.trd.specs.Trd.{TrdIsLeast, TrdGiven}
 abbrev pub ResponsesLeftBounded : Type 0
 ResponsesLeftBounded =
     EveryRun
-    (λ w R cycles X a X'. a.number ≡ DONE → (i : ℕ) → i < messages w → releaseOf R i + i + 1 ≤ cycles → get_or X' i 0 ≤ i + 1)
+    (λ w R cycles X a X'. a.number ≡ DONE → (i : ℕ) → i < messages w → release_of R i + i + 1 ≤ cycles → get_or X' i 0 ≤ i + 1)

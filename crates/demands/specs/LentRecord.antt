@@ -16,21 +16,21 @@ abbrev nothing : (w : World) → Pr w
 nothing w = emp w.𝓤
 
 module _ (κ : Lfts 2) (x : ArgsD fresh-start-in.signature κ) (a : ResD fresh-start-in.signature κ) (l : AtExit fresh-start-in.ended κ) where
-  abbrev fresh-start-in-ensures : (w : World) → Pr w
-  fresh-start-in-ensures w = (fresh-start-in.clauses w.𝓛 w.𝓜.mem w.𝓡.run κ x).ensures tt a l
+  abbrev fresh_start_in_ensures : (w : World) → Pr w
+  fresh_start_in_ensures w = (fresh-start-in.clauses w.𝓛 w.𝓜.mem w.𝓡.run κ x).ensures tt a l
 
-  abbrev fresh-start-in-read : Read nothing no_know fresh-start-in-ensures
-  fresh-start-in-read = all_models fresh-start-in-ensures (λ w. r_last _) (λ w. refl) (λ w. refl) (λ w. refl)
+  abbrev fresh_start_in_read : Read nothing no_know fresh_start_in_ensures
+  fresh_start_in_read = all_models fresh_start_in_ensures (λ w. r_last _) (λ w. refl) (λ w. refl) (λ w. refl)
 
   abbrev pub FreshStartInLearnt : Type 0
-  FreshStartInLearnt = AllOf fresh-start-in-read.tells
+  FreshStartInLearnt = AllOf fresh_start_in_read.tells
 
 module _ (κ : Lfts 4) (x : ArgsD slot-in.signature κ) (a : ResD slot-in.signature κ) (l : AtExit slot-in.ended κ) where
-  abbrev slot-in-ensures : (w : World) → Pr w
-  slot-in-ensures w = (slot-in.clauses w.𝓛 w.𝓜.mem w.𝓡.run κ x).ensures tt a l
+  abbrev slot_in_ensures : (w : World) → Pr w
+  slot_in_ensures w = (slot-in.clauses w.𝓛 w.𝓜.mem w.𝓡.run κ x).ensures tt a l
 
-  abbrev slot-in-read : Read nothing no_know slot-in-ensures
-  slot-in-read = all_models slot-in-ensures (λ w. r_last _) (λ w. refl) (λ w. refl) (λ w. refl)
+  abbrev slot_in_read : Read nothing no_know slot_in_ensures
+  slot_in_read = all_models slot_in_ensures (λ w. r_last _) (λ w. refl) (λ w. refl) (λ w. refl)
 
   abbrev pub SlotInLearnt : Type 0
-  SlotInLearnt = AllOf slot-in-read.tells
+  SlotInLearnt = AllOf slot_in_read.tells

@@ -2,7 +2,7 @@
 -- every lent byte, count and record after. `Learnt` is the contract itself (`Calls.antt`). The builder alone has a free choice, which accepted table it
 -- leaves, and with it those who show that table; all the rest of their outcomes is one.
 use Rattle.std.specs.Prelude.{◌*◌, ◌≡◌, drop}
-use Rattle.plan_text.specs.Reading.{frameIn, portsIn}
+use Rattle.plan_text.specs.Reading.{frame_in, ports_in}
 use Rattle.answers.specs.Numbers.{DONE}
 use Rattle.margins.proofs.margin.Reads as margin
 use Rattle.margins.proofs.room.Reads as room
@@ -22,7 +22,7 @@ use Rattle.forwarding.proofs.offer.Reads as offer
 use Rattle.forwarding.proofs.slot.Reads as slot
 use Rattle.planner.proofs.respond.respond.Reads as respond
 use Rattle.planner.proofs.printing.print.Reads as print
-use Rattle.planner.specs.Printing.{answerTo}
+use Rattle.planner.specs.Printing.{answer_to}
 use Rattle.demands.specs.LentRecord as lent
 
 abbrev pub OneMargin : Type 0
@@ -116,11 +116,11 @@ OneRespond =
     → respond.Learnt κ x a l → respond.Learnt κ x b m
     → (a ≡ b)
     × (((a.answer.number ≡ DONE → ⊥) → l.1.0.now ≡ m.1.0.now)
-    × (drop (portsIn x.0.now * frameIn x.0.now) l.1.0.now ≡ drop (portsIn x.0.now * frameIn x.0.now) m.1.0.now))
+    × (drop (ports_in x.0.now * frame_in x.0.now) l.1.0.now ≡ drop (ports_in x.0.now * frame_in x.0.now) m.1.0.now))
 
 -- of what the program writes, all of it on a refusal; the builder's choice of a table is the only other thing that it shows
 abbrev pub OnePrint : Type 0
 OnePrint =
     (κ : _) (x : _) (a b : _) (l m : _)
     → print.Learnt κ x a l → print.Learnt κ x b m
-    → ((answerTo x.0.now).number ≡ DONE → ⊥) → (a ≡ b) × (l.1.0.now ≡ m.1.0.now)
+    → ((answer_to x.0.now).number ≡ DONE → ⊥) → (a ≡ b) × (l.1.0.now ≡ m.1.0.now)

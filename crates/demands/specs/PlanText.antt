@@ -2,35 +2,35 @@
 use Rattle.std.specs.Prelude.{ℕ, ◌+◌, ◌*◌, ◌≤◌, ◌<◌, ◌≡◌, ◌↔◌, true, List, [], ◌∷◌, length, get_or, take, pos}
 use Rattle.std.specs.Int.Signed.{mag}
 use Rattle.answers.specs.declared.Answer.{Answer}
-use Rattle.answers.specs.Numbers.{DONE, TEXT-NOT-OF-FORM}
-use Rattle.answers.specs.Limits.{maxText, Within}
-use Rattle.answers.specs.Answers.{answer, doneWith}
-use Rattle.flows.specs.Flows.{perFlow, flowCount, InRange}
-use Rattle.plan_text.specs.Digits.{zeroByte, digits}
-use Rattle.plan_text.specs.Form.{maxNumber, planText, OfForm, LongestBeginning}
-use Rattle.plan_text.specs.Reading.{ofForm, frameIn, portsIn, listIn}
+use Rattle.answers.specs.Numbers.{DONE, TEXT_NOT_OF_FORM}
+use Rattle.answers.specs.Limits.{max_text, Within}
+use Rattle.answers.specs.Answers.{answer, done_with}
+use Rattle.flows.specs.Flows.{per_flow, flow_count, InRange}
+use Rattle.plan_text.specs.Digits.{zero_byte, digits}
+use Rattle.plan_text.specs.Form.{max_number, text_of_plan, OfForm, LongestBeginning}
+use Rattle.plan_text.specs.Reading.{is_of_form, frame_in, ports_in, list_in}
 use Rattle.plan_text.specs.Plans.{over}
 use Rattle.plan_text.specs.declared.reading.Plan.{Plan}
 use Rattle.demands.specs.Calls.{EveryRead, EveryWrite}
 
 -- "A number is 0, or 1 to 5 digits without a leading 0."
 pub record IsNumber (bytes : List ℕ) : Type 0 where
-  pub all_digits : (p : ℕ) → p < length bytes → Within zeroByte (zeroByte + 9) (get_or bytes p 0)
+  pub all_digits : (p : ℕ) → p < length bytes → Within zero_byte (zero_byte + 9) (get_or bytes p 0)
   pub some : 1 ≤ length bytes
-  pub at-most-five : length bytes ≤ 5
-  pub no-leading-zero : get_or bytes 0 0 ≡ zeroByte → length bytes ≡ 1
+  pub at_most_five : length bytes ≤ 5
+  pub no_leading_zero : get_or bytes 0 0 ≡ zero_byte → length bytes ≡ 1
 
 -- such bytes are exactly the digits of a number up to the largest, and each number has one way to be written
 abbrev pub NumbersWritten : Type 0
-NumbersWritten = (bytes : List ℕ) → IsNumber bytes ↔ ((n : ℕ) × (n ≤ maxNumber) × (bytes ≡ digits n))
+NumbersWritten = (bytes : List ℕ) → IsNumber bytes ↔ ((n : ℕ) × (n ≤ max_number) × (bytes ≡ digits n))
 
 abbrev pub WrittenOneWay : Type 0
-WrittenOneWay = (m n : ℕ) → m ≤ maxNumber → n ≤ maxNumber → digits m ≡ digits n → m ≡ n
+WrittenOneWay = (m n : ℕ) → m ≤ max_number → n ≤ max_number → digits m ≡ digits n → m ≡ n
 
 -- "A whole text (49 bytes)": plan A
 abbrev pub PlanA : Type 0
 PlanA =
-    planText 5 4 (1 ∷ 1 ∷ 3 ∷ 1 ∷ 2 ∷ 2 ∷ 2 ∷ 1 ∷ 2 ∷ [])
+    text_of_plan 5 4 (1 ∷ 1 ∷ 3 ∷ 1 ∷ 2 ∷ 2 ∷ 2 ∷ 1 ∷ 2 ∷ [])
     ≡ (102 ∷ 114 ∷ 97 ∷ 109 ∷ 101 ∷ 61 ∷ 53 ∷ 10 ∷ 112 ∷ 111 ∷ 114 ∷ 116 ∷ 115 ∷ 61 ∷ 52 ∷ 10
     ∷ 102 ∷ 108 ∷ 111 ∷ 119 ∷ 61 ∷ 49 ∷ 44 ∷ 49 ∷ 44 ∷ 51 ∷ 10
     ∷ 102 ∷ 108 ∷ 111 ∷ 119 ∷ 61 ∷ 49 ∷ 44 ∷ 50 ∷ 44 ∷ 50 ∷ 10
@@ -38,14 +38,14 @@ PlanA =
 
 -- "Nothing else is allowed.": the reader takes a text to be of the form exactly if it is
 abbrev pub AcceptsTheForm : Type 0
-AcceptsTheForm = (text : List ℕ) → (ofForm text ≡ true) ↔ OfForm text
+AcceptsTheForm = (text : List ℕ) → (is_of_form text ≡ true) ↔ OfForm text
 
 -- it finds the plan that the text was written from, whose text is the text again, so that a text has one plan
 abbrev pub FindsThePlan : Type 0
-FindsThePlan = (text : List ℕ) (o : OfForm text) → (frameIn text ≡ o.frame) × (portsIn text ≡ o.ports) × (listIn text ≡ o.list)
+FindsThePlan = (text : List ℕ) (o : OfForm text) → (frame_in text ≡ o.frame) × (ports_in text ≡ o.ports) × (list_in text ≡ o.list)
 
 abbrev pub TextOfThePlan : Type 0
-TextOfThePlan = (text : List ℕ) → OfForm text → planText (frameIn text) (portsIn text) (listIn text) ≡ text
+TextOfThePlan = (text : List ℕ) → OfForm text → text_of_plan (frame_in text) (ports_in text) (list_in text) ≡ text
 
 abbrev pub OnePlan : Type 0
 OnePlan = (text : List ℕ) (a b : OfForm text) → (a.frame ≡ b.frame) × (a.ports ≡ b.ports) × (a.list ≡ b.list)
@@ -56,22 +56,22 @@ abbrev pub NamesLongest : Type 0
 NamesLongest =
     EveryRead
     (λ text B p B'. (n : ℕ)
-    → (p.answer ≡ answer TEXT-NOT-OF-FORM (pos n)) ↔ ((length text ≤ maxText) × (OfForm text → ⊥) × LongestBeginning text n))
+    → (p.answer ≡ answer TEXT_NOT_OF_FORM (pos n)) ↔ ((length text ≤ max_text) × (OfForm text → ⊥) × LongestBeginning text n))
 
 -- a text is read with 0 exactly if it is within its limit and of the form, its plan is in range, and its list has room
 abbrev pub ReadGiven : Type 0
 ReadGiven =
     EveryRead
     (λ text B p B'. (p.answer.number ≡ DONE)
-    ↔ ((length text ≤ maxText) × OfForm text × InRange (frameIn text) (portsIn text) (listIn text) × (length (listIn text) ≤ length B)))
+    ↔ ((length text ≤ max_text) × OfForm text × InRange (frame_in text) (ports_in text) (list_in text) × (length (list_in text) ≤ length B)))
 
 -- and a plan is written with 0 exactly if it is in range and its text has room
 abbrev pub WriteGiven : Type 0
-WriteGiven = EveryWrite (λ M N L X a X'. (a.number ≡ DONE) ↔ (InRange M N L × (length (planText M N L) ≤ length X)))
+WriteGiven = EveryWrite (λ M N L X a X'. (a.number ≡ DONE) ↔ (InRange M N L × (length (text_of_plan M N L) ≤ length X)))
 
 -- the list that reading leaves in the lent buffer: three numbers for each flow that the detail counts
-abbrev pub listRead : Plan → List ℕ → List ℕ
-listRead p B = take (perFlow * mag p.answer.detail) B
+abbrev pub list_read : Plan → List ℕ → List ℕ
+list_read p B = take (per_flow * mag p.answer.detail) B
 
 -- "Reading then writing gives the same bytes for each text read with 0", where they have room
 abbrev pub ReadThenWrite : Type 0
@@ -79,12 +79,12 @@ ReadThenWrite =
     EveryRead
     (λ text B p B'. p.answer.number ≡ DONE
     → EveryWrite
-    (λ M N L X a X'. M ≡ p.frame → N ≡ p.ports → L ≡ listRead p B' → length text ≤ length X
-    → (a ≡ doneWith (pos (length text))) × (X' ≡ over text X)))
+    (λ M N L X a X'. M ≡ p.frame → N ≡ p.ports → L ≡ list_read p B' → length text ≤ length X
+    → (a ≡ done_with (pos (length text))) × (X' ≡ over text X)))
 
 -- the text that writing leaves in the lent buffer: as many bytes as the detail says
-abbrev pub textWritten : Answer → List ℕ → List ℕ
-textWritten a X = take (mag a.detail) X
+abbrev pub text_written : Answer → List ℕ → List ℕ
+text_written a X = take (mag a.detail) X
 
 -- "writing then reading gives the same plan for each plan written with 0", where its list has room
 abbrev pub WriteThenRead : Type 0
@@ -92,5 +92,5 @@ WriteThenRead =
     EveryWrite
     (λ M N L X a X'. a.number ≡ DONE
     → EveryRead
-    (λ text B p B'. text ≡ textWritten a X' → length L ≤ length B
-    → (p ≡ record { answer = doneWith (pos (flowCount L)); frame = M; ports = N; flows = flowCount L }) × (B' ≡ over L B)))
+    (λ text B p B'. text ≡ text_written a X' → length L ≤ length B
+    → (p ≡ record { answer = done_with (pos (flow_count L)); frame = M; ports = N; flows = flow_count L }) × (B' ≡ over L B)))

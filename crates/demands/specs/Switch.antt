@@ -4,7 +4,7 @@
 use Rattle.std.specs.Prelude.{◌≡◌, length}
 use Rattle.answers.specs.declared.Answer.{Answer}
 use Rattle.forwarding.specs.declared.Running.{Running}
-use Rattle.forwarding.specs.Calls.{State, Call, state_of, aFreshStart, anOffer, aSlot, answer_of, step, sentAfter}
+use Rattle.forwarding.specs.Calls.{State, Call, state_of, a_fresh_start, an_offer, a_slot, answer_of, step, sent_after}
 use Rattle.demands.specs.Calls.{EveryFreshStart, EveryOffer, EverySlot, EveryFreshStartIn, EverySlotIn}
 -- demand 3, "in any M consecutive slots each flow sends at most its reservation and at least the smaller of its reservation and what it had waiting
 -- when the window opened"
@@ -28,21 +28,21 @@ pub record Steps (st : State) (c : Call) (a : Answer) (st' : State) : Type 0 whe
 
 -- so is every call of these functions, refused ones too; what it leaves is the record and every count
 abbrev pub FreshStartSteps : Type 0
-FreshStartSteps = EveryFreshStart (λ r M N W o W'. Steps (state_of r W) (aFreshStart M N) o.answer (state_of o.running W'))
+FreshStartSteps = EveryFreshStart (λ r M N W o W'. Steps (state_of r W) (a_fresh_start M N) o.answer (state_of o.running W'))
 
 -- an offer is not handed the record, and any record stays
 abbrev pub OfferSteps : Type 0
-OfferSteps = EveryOffer (λ W k n a W'. (r : Running) → Steps (state_of r W) (anOffer k n) a (state_of r W'))
+OfferSteps = EveryOffer (λ W k n a W'. (r : Running) → Steps (state_of r W) (an_offer k n) a (state_of r W'))
 
 -- and of a slot the sent buffer besides
 abbrev pub SlotSteps : Type 0
 SlotSteps =
-    EverySlot (λ r T W S o W' S'. Steps (state_of r W) (aSlot T (length S)) o.answer (state_of o.running W') × (S' ≡ sentAfter (state_of r W) T S))
+    EverySlot (λ r T W S o W' S'. Steps (state_of r W) (a_slot T (length S)) o.answer (state_of o.running W') × (S' ≡ sent_after (state_of r W) T S))
 
 -- the functions that are lent the record do the same to it
 abbrev pub FreshStartInSteps : Type 0
-FreshStartInSteps = EveryFreshStartIn (λ r M N W a r' W'. Steps (state_of r W) (aFreshStart M N) a (state_of r' W'))
+FreshStartInSteps = EveryFreshStartIn (λ r M N W a r' W'. Steps (state_of r W) (a_fresh_start M N) a (state_of r' W'))
 
 abbrev pub SlotInSteps : Type 0
 SlotInSteps =
-    EverySlotIn (λ r T W S a r' W' S'. Steps (state_of r W) (aSlot T (length S)) a (state_of r' W') × (S' ≡ sentAfter (state_of r W) T S))
+    EverySlotIn (λ r T W S a r' W' S'. Steps (state_of r W) (a_slot T (length S)) a (state_of r' W') × (S' ≡ sent_after (state_of r W) T S))

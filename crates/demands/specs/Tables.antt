@@ -1,31 +1,31 @@
 -- Tables: any table is judged by the one definition of accepted.
 use Rattle.std.specs.Prelude.{ℕ, ◌*◌, ◌≤◌, ◌<◌, ◌≡◌, ◌↔◌, List, [], length, take, pos}
-use Rattle.answers.specs.Numbers.{DONE, ENTRY-NOT-OF-ROW, INPUT-TWICE-IN-SLOT, COUNT-WRONG}
+use Rattle.answers.specs.Numbers.{DONE, ENTRY_NOT_OF_ROW, INPUT_TWICE_IN_SLOT, COUNT_WRONG}
 use Rattle.answers.specs.Lowest.{IsLowest}
-use Rattle.answers.specs.Answers.{answer, doneWith}
-use Rattle.flows.specs.Flows.{flowCount, InRange, Fitting}
+use Rattle.answers.specs.Answers.{answer, done_with}
+use Rattle.flows.specs.Flows.{flow_count, InRange, Fitting}
 use Rattle.tables.specs.Accepted.{Accepted, NotOfRow, InputTwice, CountWrong}
 use Rattle.demands.specs.Calls.{EveryCheck, EveryRowAnswer, EveryRow}
 
 -- frame, ports and list are in range, and the table has its N-as-M bytes: what the check asks before it looks at an entry
 pub record Judged (M N : ℕ) (L T : List ℕ) : Type 0 where
-  pub in-range : InRange M N L
-  pub long-enough : N * M ≤ length T
+  pub in_range : InRange M N L
+  pub long_enough : N * M ≤ length T
 
 -- the check answers done exactly if ranges, list and length are right and the table is accepted
 abbrev pub DoneIffAccepted : Type 0
-DoneIffAccepted = EveryCheck (λ M N L T a. (a ≡ doneWith (pos 0)) ↔ (Judged M N L T × Accepted M N L T))
+DoneIffAccepted = EveryCheck (λ M N L T a. (a ≡ done_with (pos 0)) ↔ (Judged M N L T × Accepted M N L T))
 
 -- refusal 8 names place p exactly if that is the lowest whose entry is neither 0 nor a flow of that row
 abbrev pub NamesPlace : Type 0
-NamesPlace = EveryCheck (λ M N L T a. (p : ℕ) → (a ≡ answer ENTRY-NOT-OF-ROW (pos p)) ↔ (Judged M N L T × IsLowest 0 (N * M) (NotOfRow M L T) p))
+NamesPlace = EveryCheck (λ M N L T a. (p : ℕ) → (a ≡ answer ENTRY_NOT_OF_ROW (pos p)) ↔ (Judged M N L T × IsLowest 0 (N * M) (NotOfRow M L T) p))
 
 -- refusal 9 names slot s exactly if 8 is not due and s is the lowest in which an input stands twice
 abbrev pub NamesSlot : Type 0
 NamesSlot =
     EveryCheck
     (λ M N L T a. (s : ℕ)
-    → (a ≡ answer INPUT-TWICE-IN-SLOT (pos s))
+    → (a ≡ answer INPUT_TWICE_IN_SLOT (pos s))
     ↔ (Judged M N L T × ((p : ℕ) → p < N * M → NotOfRow M L T p → ⊥) × IsLowest 0 M (InputTwice M N L T) s))
 
 -- refusal 10 names flow k exactly if neither 8 nor 9 is due and k is the lowest whose count in the table is wrong
@@ -33,11 +33,11 @@ abbrev pub NamesFlow : Type 0
 NamesFlow =
     EveryCheck
     (λ M N L T a. (k : ℕ)
-    → (a ≡ answer COUNT-WRONG (pos k))
+    → (a ≡ answer COUNT_WRONG (pos k))
     ↔ (Judged M N L T
     × ((p : ℕ) → p < N * M → NotOfRow M L T p → ⊥)
     × ((s : ℕ) → s < M → InputTwice M N L T s → ⊥)
-    × IsLowest 1 (flowCount L) (CountWrong M N L T) k))
+    × IsLowest 1 (flow_count L) (CountWrong M N L T) k))
 
 -- "Build and the check ignore table bytes past N·M": tables that are long enough and the same up to there are answered alike
 abbrev pub BytesPastIgnored : Type 0

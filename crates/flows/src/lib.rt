@@ -1,9 +1,9 @@
 // The flow list: three 16-bit numbers a flow, input, output and cells per frame. Whoever reads a list reads it through these functions.
 ghost use Rattle.std.specs.Prelude.{◌≡◌, ◌<◌, ◌≤◌};
-ghost use Rattle.answers.specs.Limits.{maxPorts};
+ghost use Rattle.answers.specs.Limits.{max_ports};
 ghost use Rattle.answers.specs.Lowest.{lowest};
-ghost use Rattle.flows.specs.Flows.{perFlow, flowCount, number_of, input_of, outputOf, cells_of, comesFrom, goesTo, misshapen};
-ghost use Rattle.flows.specs.Flows.{flowOutOfRange, outputsOutOfRange, cellsAt, listAnswer, overloaded, inputOverloaded, outputOverloaded};
+ghost use Rattle.flows.specs.Flows.{per_flow, flow_count, number_of, input_of, output_of, cells_of, comes_from, goes_to, misshapen};
+ghost use Rattle.flows.specs.Flows.{flow_out_of_range, outputs_out_of_range, cells_at, list_answer, overloaded, input_overloaded, output_overloaded};
 
 use answers::{Answer, DONE, FLOW_OUT_OF_RANGE, LIST_MISSHAPEN, MAX_FLOWS};
 
@@ -12,7 +12,7 @@ pub const PER_FLOW: usize = 3;
 // One of a flow's numbers, by its place among them, and 0 where the list has no such number. A list has fewer flows than numbers,
 // so the place in the list is not counted for a flow that could make it wrap.
 fn number_of(list: &[u16], flow: usize, place: usize) -> usize
-    requires { place < perFlow }
+    requires { place < per_flow }
     ensures { result ≡ number_of list.now flow place }
 {
     if flow == 0 {
@@ -36,7 +36,7 @@ pub fn input_of(list: &[u16], flow: usize) -> usize
 }
 
 pub fn output_of(list: &[u16], flow: usize) -> usize
-    ensures { result ≡ outputOf list.now flow }
+    ensures { result ≡ output_of list.now flow }
 {
     number_of(list, flow, 1)
 }
@@ -48,21 +48,21 @@ pub fn cells_of(list: &[u16], flow: usize) -> usize
 }
 
 pub fn flow_count(list: &[u16]) -> usize
-    ensures { result ≡ flowCount list.now }
+    ensures { result ≡ flow_count list.now }
 {
     list.len() / PER_FLOW
 }
 
 // Whether the flow's cells come from that input.
 pub fn comes_from(list: &[u16], flow: usize, input: usize) -> bool
-    ensures { result ≡ comesFrom list.now flow input }
+    ensures { result ≡ comes_from list.now flow input }
 {
     input_of(list, flow) == input
 }
 
 // Whether the flow's cells are for that output.
 pub fn goes_to(list: &[u16], flow: usize, output: usize) -> bool
-    ensures { result ≡ goesTo list.now flow output }
+    ensures { result ≡ goes_to list.now flow output }
 {
     output_of(list, flow) == output
 }
@@ -79,14 +79,14 @@ pub fn misshapen(list: &[u16]) -> bool
 
 // Whether the flow has no output, or one that is not there.
 fn outputs_out_of_range(ports: usize, list: &[u16], flow: usize) -> bool
-    ensures { result ≡ outputsOutOfRange ports list.now flow }
+    ensures { result ≡ outputs_out_of_range ports list.now flow }
 {
     answers::outside(1, ports, output_of(list, flow))
 }
 
 // Refusal 4 of one flow.
 fn flow_out_of_range(frame: usize, ports: usize, list: &[u16], flow: usize) -> bool
-    ensures { result ≡ flowOutOfRange frame ports list.now flow }
+    ensures { result ≡ flow_out_of_range frame ports list.now flow }
 {
     if answers::outside(1, ports, input_of(list, flow)) {
         return true;
@@ -99,7 +99,7 @@ fn flow_out_of_range(frame: usize, ports: usize, list: &[u16], flow: usize) -> b
 
 // The lowest flow that refusal 4 names, or one past the last flow.
 pub fn first_out_of_range(frame: usize, ports: usize, list: &[u16]) -> usize
-    ensures { result ≡ lowest 1 (flowCount list.now) (flowOutOfRange frame ports list.now) }
+    ensures { result ≡ lowest 1 (flow_count list.now) (flow_out_of_range frame ports list.now) }
 {
     let count = flow_count(list);
     let mut flow = 1;
@@ -114,7 +114,7 @@ pub fn first_out_of_range(frame: usize, ports: usize, list: &[u16]) -> usize
 
 // Refusals 1, 2, 3 and 4, which every call that takes a list gives first, or done.
 pub fn list_answer(frame: usize, ports: usize, list: &[u16]) -> Answer
-    ensures { result ≡ listAnswer frame ports list.now }
+    ensures { result ≡ list_answer frame ports list.now }
 {
     let sized = answers::size_answer(frame, ports);
     if sized.number != DONE {
@@ -132,7 +132,7 @@ pub fn list_answer(frame: usize, ports: usize, list: &[u16]) -> Answer
 
 // A flow's cells as they count at a port, taken as an input or as an output.
 fn cells_at(as_input: bool, list: &[u16], port: usize, flow: usize) -> usize
-    ensures { result ≡ cellsAt as_input list.now port flow }
+    ensures { result ≡ cells_at as_input list.now port flow }
 {
     if as_input {
         if comes_from(list, flow, port) {
@@ -166,7 +166,7 @@ fn port_overloaded(as_input: bool, frame: usize, list: &[u16], port: usize) -> b
 
 // The lowest port that is asked for more than the frame, or one past the last port.
 fn first_overloaded(as_input: bool, frame: usize, ports: usize, list: &[u16]) -> usize
-    requires { ports ≤ maxPorts }
+    requires { ports ≤ max_ports }
     ensures { result ≡ lowest 1 ports (overloaded as_input frame list.now) }
 {
     let mut port = 1;
@@ -180,15 +180,15 @@ fn first_overloaded(as_input: bool, frame: usize, ports: usize, list: &[u16]) ->
 }
 
 pub fn first_overloaded_input(frame: usize, ports: usize, list: &[u16]) -> usize
-    requires { ports ≤ maxPorts }
-    ensures { result ≡ lowest 1 ports (inputOverloaded frame list.now) }
+    requires { ports ≤ max_ports }
+    ensures { result ≡ lowest 1 ports (input_overloaded frame list.now) }
 {
     first_overloaded(true, frame, ports, list)
 }
 
 pub fn first_overloaded_output(frame: usize, ports: usize, list: &[u16]) -> usize
-    requires { ports ≤ maxPorts }
-    ensures { result ≡ lowest 1 ports (outputOverloaded frame list.now) }
+    requires { ports ≤ max_ports }
+    ensures { result ≡ lowest 1 ports (output_overloaded frame list.now) }
 {
     first_overloaded(false, frame, ports, list)
 }

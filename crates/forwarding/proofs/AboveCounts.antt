@@ -6,52 +6,52 @@ use native.Mathlib.Omega.{arith}
 use lib.ListN.{length}
 use lib.IntN.{pos}
 use Rattle.answers.specs.declared.Answer.{Answer}
-use Rattle.answers.specs.Numbers.{DONE, ENTRY-ABOVE-COUNTS}
-use Rattle.answers.specs.Limits.{maxDetail}
+use Rattle.answers.specs.Numbers.{DONE, ENTRY_ABOVE_COUNTS}
+use Rattle.answers.specs.Limits.{max_detail}
 use Rattle.answers.specs.Lowest.{lowest}
-use Rattle.answers.specs.Answers.{Rule, answer, doneWith}
-use Rattle.answers.proofs.First.{NoneHolds, first-none, lowest-told, lowest-passed, refusal-passed-on, goes_on, none-of-them}
-use Rattle.tables.proofs.Places.{place-bound}
+use Rattle.answers.specs.Answers.{Rule, answer, done_with}
+use Rattle.answers.proofs.First.{NoneHolds, first_none, lowest_told, lowest_passed, refusal_passed_on, goes_on, none_of_them}
+use Rattle.tables.proofs.Places.{place_bound}
 use Rattle.forwarding.specs.declared.Running.{Running}
-use Rattle.forwarding.specs.Forwarding.{placeNow, aboveCounts, slotSizeRules, slotEntryRules, slotSizeAnswer, slotAnswer}
+use Rattle.forwarding.specs.Forwarding.{place_now, above_counts, slot_size_rules, slot_entry_rules, slot_size_answer, slot_answer}
 use Rattle.forwarding.specs.AboveCounts.{SlotAsked}
-use Rattle.forwarding.proofs.Done.{slot-asked}
+use Rattle.forwarding.proofs.Done.{slot_asked}
 
-module _ (r : Running) (T W : List ℕ) (sentLength : ℕ) {a : Answer} (e : a ≡ slotSizeAnswer r T W sentLength) where
+module _ (r : Running) (T W : List ℕ) (sentLength : ℕ) {a : Answer} (e : a ≡ slot_size_answer r T W sentLength) where
   abbrev sizes : List Rule
-  sizes = slotSizeRules r T W sentLength
+  sizes = slot_size_rules r T W sentLength
 
   abbrev entries : List Rule
-  entries = slotEntryRules r T W
+  entries = slot_entry_rules r T W
 
-  pub size-refused : (a.number ≡ DONE → ⊥) → a ≡ slotAnswer r T W sentLength
-  unfolding slotSizeAnswer slotAnswer
-  size-refused d = refusal-passed-on sizes entries (doneWith (pos 0)) a e d
+  pub size_refused : (a.number ≡ DONE → ⊥) → a ≡ slot_answer r T W sentLength
+  unfolding slot_size_answer slot_answer
+  size_refused d = refusal_passed_on sizes entries (done_with (pos 0)) a e d
 
-  sizes-kept : a.number ≡ DONE → NoneHolds sizes
-  unfolding slotSizeAnswer
-  sizes-kept z = none-of-them sizes entries (doneWith (pos 0)) a e tt z
+  sizes_kept : a.number ≡ DONE → NoneHolds sizes
+  unfolding slot_size_answer
+  sizes_kept z = none_of_them sizes entries (done_with (pos 0)) a e tt z
 
-  pub sizes-asked : a.number ≡ DONE → SlotAsked r T W sentLength
-  sizes-asked z = slot-asked r T W sentLength (sizes-kept z)
+  pub sizes_asked : a.number ≡ DONE → SlotAsked r T W sentLength
+  sizes_asked z = slot_asked r T W sentLength (sizes_kept z)
 
-  pub place-fits : a.number ≡ DONE → (j : ℕ) → j < r.ports → placeNow r j < maxDetail
-  place-fits z j l =
-      let asked = sizes-asked z in
-      omega (arith, place-bound asked.whole j r.position l asked.placed)
+  pub place_fits : a.number ≡ DONE → (j : ℕ) → j < r.ports → place_now r j < max_detail
+  place_fits z j l =
+      let asked = sizes_asked z in
+      omega (arith, place_bound asked.whole j r.position l asked.placed)
 
-  module _ (z : a.number ≡ DONE) (j : ℕ) (found : j ≡ lowest 0 r.ports (aboveCounts r T (length W))) where
-    pub entry-refused : j < r.ports → answer ENTRY-ABOVE-COUNTS (pos (placeNow r j)) ≡ slotAnswer r T W sentLength
-    unfolding slotSizeAnswer slotAnswer
-    entry-refused l =
-        lowest-told 0 r.ports (aboveCounts r T (length W)) j found ENTRY-ABOVE-COUNTS (placeNow r) (doneWith (pos 0)) (omega arith)
-        ∙ sym (goes_on sizes entries (doneWith (pos 0)) a e tt z)
+  module _ (z : a.number ≡ DONE) (j : ℕ) (found : j ≡ lowest 0 r.ports (above_counts r T (length W))) where
+    pub entry_refused : j < r.ports → answer ENTRY_ABOVE_COUNTS (pos (place_now r j)) ≡ slot_answer r T W sentLength
+    unfolding slot_size_answer slot_answer
+    entry_refused l =
+        lowest_told 0 r.ports (above_counts r T (length W)) j found ENTRY_ABOVE_COUNTS (place_now r) (done_with (pos 0)) (omega arith)
+        ∙ sym (goes_on sizes entries (done_with (pos 0)) a e tt z)
 
-    pub none-refused : r.ports ≤ j → a ≡ slotAnswer r T W sentLength
-    unfolding slotSizeAnswer slotAnswer
-    none-refused l =
+    pub none_refused : r.ports ≤ j → a ≡ slot_answer r T W sentLength
+    unfolding slot_size_answer slot_answer
+    none_refused l =
         e
-        ∙ first-none sizes (doneWith (pos 0)) (sizes-kept z)
-        ∙ lowest-passed 0 r.ports (aboveCounts r T (length W)) j found
-        (answer ENTRY-ABOVE-COUNTS (pos (placeNow r (lowest 0 r.ports (aboveCounts r T (length W)))))) (doneWith (pos 0)) (omega arith)
-        ∙ sym (goes_on sizes entries (doneWith (pos 0)) a e tt z)
+        ∙ first_none sizes (done_with (pos 0)) (sizes_kept z)
+        ∙ lowest_passed 0 r.ports (above_counts r T (length W)) j found
+        (answer ENTRY_ABOVE_COUNTS (pos (place_now r (lowest 0 r.ports (above_counts r T (length W)))))) (done_with (pos 0)) (omega arith)
+        ∙ sym (goes_on sizes entries (done_with (pos 0)) a e tt z)

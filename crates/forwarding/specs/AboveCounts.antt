@@ -1,41 +1,41 @@
 -- Refusal 28: which entry it tells of, and that a slot lent an accepted table, with K waiting counts, answers as if there were no 28.
 use Rattle.std.specs.Prelude.{ℕ, ◌≤◌, ◌<◌, ◌≡◌, ◌↔◌, List, length, pos}
-use Rattle.answers.specs.Numbers.{ENTRY-ABOVE-COUNTS}
-use Rattle.answers.specs.Limits.{maxFlows}
+use Rattle.answers.specs.Numbers.{ENTRY_ABOVE_COUNTS}
+use Rattle.answers.specs.Limits.{max_flows}
 use Rattle.answers.specs.Lowest.{IsLowest}
 use Rattle.answers.specs.Answers.{answer}
-use Rattle.flows.specs.Flows.{flowCount}
+use Rattle.flows.specs.Flows.{flow_count}
 use Rattle.tables.specs.Accepted.{Accepted}
 use Rattle.tables.specs.Check.{Holds}
 use Rattle.forwarding.specs.declared.Running.{Running}
-use Rattle.forwarding.specs.Forwarding.{entriesNow, placeNow, slotSizeAnswer, slotAnswer}
+use Rattle.forwarding.specs.Forwarding.{entries_now, place_now, slot_size_answer, slot_answer}
 
 -- what a slot asks before it looks at an entry: 1, 2, 7, 12 and 11 are not due
 pub record SlotAsked (r : Running) (T W : List ℕ) (sentLength : ℕ) : Type 0 where
   pub whole : Holds r.frame r.ports T
-  pub few : length W ≤ maxFlows
-  pub sent-room : r.ports ≤ sentLength
+  pub few : length W ≤ max_flows
+  pub sent_room : r.ports ≤ sentLength
   pub placed : r.position < r.frame
 
 -- every entry at the record's position is 0 or has a waiting count
 abbrev pub AllCounted : Running → List ℕ → List ℕ → Type 0
-AllCounted r T W = (j : ℕ) → j < r.ports → entriesNow r T j ≤ length W
+AllCounted r T W = (j : ℕ) → j < r.ports → entries_now r T j ≤ length W
 
 -- the entry of output j + 1 at the record's position is above the number of waiting counts
 abbrev pub WithoutCount : Running → List ℕ → List ℕ → ℕ → Type 0
-WithoutCount r T W j = length W < entriesNow r T j
+WithoutCount r T W j = length W < entries_now r T j
 
 -- refusal 28 tells of place p exactly if 1, 2, 7, 12 and 11 are not due and p is where the lowest output with such an entry has it
 abbrev pub NamesEntry : Type 0
 NamesEntry =
     (r : Running) (T W : List ℕ) (sentLength p : ℕ)
-    → (slotAnswer r T W sentLength ≡ answer ENTRY-ABOVE-COUNTS (pos p))
-    ↔ (SlotAsked r T W sentLength × ((j : ℕ) × IsLowest 0 r.ports (WithoutCount r T W) j × (placeNow r j ≡ p)))
+    → (slot_answer r T W sentLength ≡ answer ENTRY_ABOVE_COUNTS (pos p))
+    ↔ (SlotAsked r T W sentLength × ((j : ℕ) × IsLowest 0 r.ports (WithoutCount r T W) j × (place_now r j ≡ p)))
 
 -- lent a table that is accepted for the list at the record's frame and ports, with K waiting counts, a slot answers as if there were no 28:
 -- the record and the sizes of what it is lent decide
 abbrev pub SizesDecide : Type 0
 SizesDecide =
     (L T W : List ℕ) (r : Running) (sentLength : ℕ)
-    → Accepted r.frame r.ports L T → length W ≡ flowCount L
-    → slotAnswer r T W sentLength ≡ slotSizeAnswer r T W sentLength
+    → Accepted r.frame r.ports L T → length W ≡ flow_count L
+    → slot_answer r T W sentLength ≡ slot_size_answer r T W sentLength

@@ -1,11 +1,11 @@
 -- Calls, and what each answers, hands back and does to the state. A refused call changes nothing.
 use Rattle.std.specs.Prelude.{ℕ, Bool, cond, List, length, replicate}
 use Rattle.answers.specs.declared.Answer.{Answer}
-use Rattle.answers.specs.Answers.{isDone}
+use Rattle.answers.specs.Answers.{is_done}
 use Rattle.answers.specs.Buffers.{written}
 use Rattle.forwarding.specs.declared.Running.{Running}
 use Rattle.forwarding.specs.declared.Outcome.{Outcome}
-use Rattle.forwarding.specs.Forwarding.{freshStartAnswer, offerAnswer, slotAnswer, entriesNow, added, served, outputByte, nextPosition}
+use Rattle.forwarding.specs.Forwarding.{fresh_start_answer, offer_answer, slot_answer, entries_now, added, served, output_byte, next_position}
 
 -- what the calls are about: the running record and the waiting counts
 pub record State : Type 0 where
@@ -21,40 +21,40 @@ running_at M N p = record { frame = M; ports = N; position = p }
 
 -- a call with its arguments; a slot call carries the table that it was lent and the length of its sent buffer
 pub data Call : Type 0 where
-  aFreshStart : ℕ → ℕ → Call
-  anOffer : ℕ → ℕ → Call
-  aSlot : List ℕ → ℕ → Call
+  a_fresh_start : ℕ → ℕ → Call
+  an_offer : ℕ → ℕ → Call
+  a_slot : List ℕ → ℕ → Call
 
 -- what the call answers
 abbrev pub answer_of : State → Call → Answer
-answer_of st (aFreshStart M N) = freshStartAnswer M N st.waiting
-answer_of st (anOffer k n) = offerAnswer st.waiting k n
-answer_of st (aSlot T sentLength) = slotAnswer st.running T st.waiting sentLength
+answer_of st (a_fresh_start M N) = fresh_start_answer M N st.waiting
+answer_of st (an_offer k n) = offer_answer st.waiting k n
+answer_of st (a_slot T sentLength) = slot_answer st.running T st.waiting sentLength
 
 -- the call is done
 abbrev pub done : State → Call → Bool
-done st c = isDone (answer_of st c)
+done st c = is_done (answer_of st c)
 
 -- the record after a slot
 abbrev pub advanced : Running → Running
-advanced r = running_at r.frame r.ports (nextPosition r.frame r.position)
+advanced r = running_at r.frame r.ports (next_position r.frame r.position)
 
 -- the state after a call that is done
-abbrev pub carriedOut : State → Call → State
-carriedOut st (aFreshStart M N) = state_of (running_at M N 0) (replicate (length st.waiting) 0)
-carriedOut st (anOffer k n) = state_of st.running (added st.waiting k n)
-carriedOut st (aSlot T sentLength) =
-    state_of (advanced st.running) (served st.running.ports (entriesNow st.running T) st.waiting)
+abbrev pub carried_out : State → Call → State
+carried_out st (a_fresh_start M N) = state_of (running_at M N 0) (replicate (length st.waiting) 0)
+carried_out st (an_offer k n) = state_of st.running (added st.waiting k n)
+carried_out st (a_slot T sentLength) =
+    state_of (advanced st.running) (served st.running.ports (entries_now st.running T) st.waiting)
 
 -- the state after a call
 unfoldable pub step : State → Call → State
-step st c = cond (done st c) (carriedOut st c) st
+step st c = cond (done st c) (carried_out st c) st
 
 -- what a fresh start or a slot hands back: its answer, and the record after it
-unfoldable pub outcomeOf : State → Call → Outcome
-outcomeOf st c = record { answer = answer_of st c; running = (step st c).running }
+unfoldable pub outcome_of : State → Call → Outcome
+outcome_of st c = record { answer = answer_of st c; running = (step st c).running }
 
 -- the sent buffer S after a slot that was lent the table T: each output's byte, the other bytes stay
-unfoldable pub sentAfter : State → List ℕ → List ℕ → List ℕ
-sentAfter st T S =
-    cond (done st (aSlot T (length S))) (written st.running.ports (outputByte (entriesNow st.running T) st.waiting) S) S
+unfoldable pub sent_after : State → List ℕ → List ℕ → List ℕ
+sent_after st T S =
+    cond (done st (a_slot T (length S))) (written st.running.ports (output_byte (entries_now st.running T) st.waiting) S) S

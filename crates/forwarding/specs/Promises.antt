@@ -4,8 +4,8 @@ use Rattle.std.specs.Prelude.{ℕ, ◌≡◌, List, length}
 use Rattle.answers.specs.declared.Answer.{Answer}
 use Rattle.forwarding.specs.declared.Running.{Running}
 use Rattle.forwarding.specs.declared.Outcome.{Outcome}
-use Rattle.forwarding.specs.Forwarding.{offerAnswer}
-use Rattle.forwarding.specs.Calls.{state_of, aFreshStart, anOffer, aSlot, step, outcomeOf, sentAfter}
+use Rattle.forwarding.specs.Forwarding.{offer_answer}
+use Rattle.forwarding.specs.Calls.{state_of, a_fresh_start, an_offer, a_slot, step, outcome_of, sent_after}
 
 -- an answer, and the record after the call
 abbrev pub outcome : Answer → Running → Outcome
@@ -13,16 +13,16 @@ outcome a r = record { answer = a; running = r }
 
 -- a fresh start at frame M and ports N
 pub record FreshStarted (r : Running) (M N : ℕ) (W : List ℕ) (o : Outcome) (W' : List ℕ) : Type 0 where
-  pub handed-back : o ≡ outcomeOf (state_of r W) (aFreshStart M N)
-  pub counts : W' ≡ (step (state_of r W) (aFreshStart M N)).waiting
+  pub handed_back : o ≡ outcome_of (state_of r W) (a_fresh_start M N)
+  pub counts : W' ≡ (step (state_of r W) (a_fresh_start M N)).waiting
 
 -- an offer of n cells to flow k; the record is not looked at and stays
 pub record Offered (W : List ℕ) (k n : ℕ) (a : Answer) (W' : List ℕ) : Type 0 where
-  pub answered : a ≡ offerAnswer W k n
-  pub counts : (r : Running) → state_of r W' ≡ step (state_of r W) (anOffer k n)
+  pub answered : a ≡ offer_answer W k n
+  pub counts : (r : Running) → state_of r W' ≡ step (state_of r W) (an_offer k n)
 
 -- a slot that was lent the table T and the sent buffer S
 pub record SlotServed (r : Running) (T W S : List ℕ) (o : Outcome) (W' S' : List ℕ) : Type 0 where
-  pub handed-back : o ≡ outcomeOf (state_of r W) (aSlot T (length S))
-  pub counts : W' ≡ (step (state_of r W) (aSlot T (length S))).waiting
-  pub sent : S' ≡ sentAfter (state_of r W) T S
+  pub handed_back : o ≡ outcome_of (state_of r W) (a_slot T (length S))
+  pub counts : W' ≡ (step (state_of r W) (a_slot T (length S))).waiting
+  pub sent : S' ≡ sent_after (state_of r W) T S

@@ -1,9 +1,9 @@
 // What each call answers before anything is changed: its refusals in their order, or done.
 ghost use Rattle.std.specs.Prelude.{◌+◌, ◌<◌, ◌≡◌};
-ghost use Rattle.answers.specs.Limits.{maxDetail};
+ghost use Rattle.answers.specs.Limits.{max_detail};
 ghost use Rattle.answers.specs.Lowest.{lowest};
 ghost use Rattle.tables.specs.Check.{Holds};
-ghost use Rattle.forwarding.specs.Forwarding.{freshStartAnswer, offerAnswer, placeNow, aboveCounts, slotSizeAnswer, slotAnswer};
+ghost use Rattle.forwarding.specs.Forwarding.{fresh_start_answer, offer_answer, place_now, above_counts, slot_size_answer, slot_answer};
 
 use crate::Running;
 use answers::{
@@ -13,7 +13,7 @@ use answers::{
 
 // What a fresh start answers.
 pub fn fresh_start_answer(frame: usize, ports: usize, waiting: &[u16]) -> Answer
-    ensures { result ≡ freshStartAnswer frame ports waiting.now }
+    ensures { result ≡ fresh_start_answer frame ports waiting.now }
 {
     let sized = answers::size_answer(frame, ports);
     if sized.number != DONE {
@@ -34,7 +34,7 @@ fn together(waiting: u16, n: u16) -> usize
 
 // What an offer answers.
 pub fn offer_answer(waiting: &[u16], flow: usize, n: u16) -> Answer
-    ensures { result ≡ offerAnswer waiting.now flow n }
+    ensures { result ≡ offer_answer waiting.now flow n }
 {
     if MAX_FLOWS < waiting.len() {
         return answers::refusal(COUNTS_OR_SENT_MISSIZED);
@@ -51,8 +51,8 @@ pub fn offer_answer(waiting: &[u16], flow: usize, n: u16) -> Answer
 
 // Where the entry of output j + 1 at the record's position stands in the table.
 pub fn place_now(running: Running, j: usize) -> usize
-    requires { placeNow running j < maxDetail }
-    ensures { result ≡ placeNow running j }
+    requires { place_now running j < max_detail }
+    ensures { result ≡ place_now running j }
 {
     j * running.frame + running.position
 }
@@ -61,7 +61,7 @@ pub fn place_now(running: Running, j: usize) -> usize
 fn first_above_counts(running: Running, table: &[u8], counts: usize) -> usize
     requires whole { Holds running.frame running.ports table.now }
     requires placed { running.position < running.frame }
-    ensures { result ≡ lowest 0 running.ports (aboveCounts running table.now counts) }
+    ensures { result ≡ lowest 0 running.ports (above_counts running table.now counts) }
 {
     let mut j = 0;
     while j < running.ports {
@@ -75,7 +75,7 @@ fn first_above_counts(running: Running, table: &[u8], counts: usize) -> usize
 
 // What a slot answers before it looks at an entry.
 fn slot_size_answer(running: Running, table: &[u8], waiting: &[u16], sent_length: usize) -> Answer
-    ensures { result ≡ slotSizeAnswer running table.now waiting.now sent_length }
+    ensures { result ≡ slot_size_answer running table.now waiting.now sent_length }
 {
     let sized = answers::size_answer(running.frame, running.ports);
     if sized.number != DONE {
@@ -98,7 +98,7 @@ fn slot_size_answer(running: Running, table: &[u8], waiting: &[u16], sent_length
 
 // What a slot answers.
 pub fn slot_answer(running: Running, table: &[u8], waiting: &[u16], sent_length: usize) -> Answer
-    ensures { result ≡ slotAnswer running table.now waiting.now sent_length }
+    ensures { result ≡ slot_answer running table.now waiting.now sent_length }
 {
     let sized = slot_size_answer(running, table, waiting, sent_length);
     if sized.number != DONE {

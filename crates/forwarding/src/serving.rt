@@ -2,7 +2,7 @@
 ghost use Rattle.std.specs.Prelude.{◌≤◌, ◌<◌, ◌≡◌, length, replicate};
 ghost use Rattle.answers.specs.Buffers.{written};
 ghost use Rattle.tables.specs.Check.{Holds};
-ghost use Rattle.forwarding.specs.Forwarding.{entriesNow, sentByte, taken, served, outputByte};
+ghost use Rattle.forwarding.specs.Forwarding.{entries_now, sent_byte, taken, served, output_byte};
 ghost use Rattle.forwarding.specs.Calls.{advanced};
 ghost use Rattle.forwarding.specs.AboveCounts.{AllCounted};
 
@@ -23,7 +23,7 @@ pub fn clear(waiting: &mut [u16])
 // An entry without a count does not come here: the slot was refused.
 fn send_cell(waiting: &mut [u16], entry: u8) -> u8
     requires { entry ≤ length waiting.old }
-    ensures byte { result ≡ sentByte waiting.old entry }
+    ensures byte { result ≡ sent_byte waiting.old entry }
     ensures left { waiting.new ≡ taken waiting.old entry }
 {
     if entry == 0 {
@@ -44,9 +44,9 @@ pub fn serve(running: Running, table: &[u8], waiting: &mut [u16], sent: &mut [u8
     requires placed { running.position < running.frame }
     requires counted { AllCounted running table.now waiting.old }
     requires room { running.ports ≤ length sent.old }
-    ensures counts { waiting.new ≡ served running.ports (entriesNow running table.now) waiting.old }
+    ensures counts { waiting.new ≡ served running.ports (entries_now running table.now) waiting.old }
     ensures bytes { sent.new
-        ≡ written running.ports (outputByte (entriesNow running table.now) waiting.old) sent.old }
+        ≡ written running.ports (output_byte (entries_now running table.now) waiting.old) sent.old }
 {
     let mut j = 0;
     while j < running.ports {

@@ -8,24 +8,24 @@ use lib.ListN.{length}
 use lib.IntN.{pos}
 use lib.Dec.{T as Truth}
 use Rattle.answers.specs.declared.Answer.{Answer}
-use Rattle.answers.specs.Numbers.{DONE, ENTRY-ABOVE-COUNTS}
+use Rattle.answers.specs.Numbers.{DONE, ENTRY_ABOVE_COUNTS}
 use Rattle.answers.specs.Sums.{one}
-use Rattle.answers.specs.Answers.{Rule, doneWith, first}
+use Rattle.answers.specs.Answers.{Rule, done_with, first}
 use Rattle.answers.proofs.First.{lacks, lacked}
-use Rattle.flows.specs.Flows.{flowCount}
+use Rattle.flows.specs.Flows.{flow_count}
 use Rattle.tables.specs.Accepted.{Accepted}
-use Rattle.forwarding.specs.Forwarding.{freshStartRules, offerRules, slotSizeRules, freshStartAnswer, offerAnswer, slotSizeAnswer}
-use Rattle.forwarding.specs.Calls.{State, Call, aFreshStart, anOffer, aSlot, answer_of, carriedOut, step}
-use Rattle.forwarding.proofs.Done.{Done, done-or, step-done, step-refused}
-use Rattle.forwarding.proofs.EntryNamed.{sizes-decide}
-use Rattle.histories.specs.Counting.{total, freshStartBy}
+use Rattle.forwarding.specs.Forwarding.{fresh_start_rules, offer_rules, slot_size_rules, fresh_start_answer, offer_answer, slot_size_answer}
+use Rattle.forwarding.specs.Calls.{State, Call, a_fresh_start, an_offer, a_slot, answer_of, carried_out, step}
+use Rattle.forwarding.proofs.Done.{Done, done_or, step-done, step_refused}
+use Rattle.forwarding.proofs.EntryNamed.{sizes_decide}
+use Rattle.histories.specs.Counting.{total, fresh_start_by}
 use Rattle.histories.specs.Shares.{LentOnly}
-use Rattle.histories.specs.NeverAbove.{answeredWith, NeverInWindow}
+use Rattle.histories.specs.NeverAbove.{answered_with, NeverInWindow}
 use Rattle.histories.proofs.Keeping.{step-length}
 
 -- a call none of whose refusals has the number does not answer with it
-lacks-28 : (rs : List Rule) → Truth (lacks ENTRY-ABOVE-COUNTS rs) → (first rs (doneWith (pos 0))).number ≡ ENTRY-ABOVE-COUNTS → ⊥
-lacks-28 rs t e = omega (arith, (lacked ENTRY-ABOVE-COUNTS rs (doneWith (pos 0)) t e).1)
+lacks_28 : (rs : List Rule) → Truth (lacks ENTRY_ABOVE_COUNTS rs) → (first rs (done_with (pos 0))).number ≡ ENTRY_ABOVE_COUNTS → ⊥
+lacks_28 rs t e = omega (arith, (lacked ENTRY_ABOVE_COUNTS rs (done_with (pos 0)) t e).1)
 
 module _ (L T : List ℕ) where
   abbrev AcceptedAt : State → Type 0
@@ -34,42 +34,42 @@ module _ (L T : List ℕ) where
   -- the table is accepted at the record's frame and ports, and there are K counts
   record InForce (st : State) : Type 0 where
     accepted : AcceptedAt st
-    counts : length st.waiting ≡ flowCount L
+    counts : length st.waiting ≡ flow_count L
 
-  never : (st : State) (c : Call) (h : List Call) → InForce st → LentOnly T (c ∷ h) → answeredWith ENTRY-ABOVE-COUNTS st c ≡ 0
-  unfolding freshStartAnswer offerAnswer slotSizeAnswer
-  never st (aFreshStart M N) h f lent = simp (ne_eqb _ _ (lacks-28 (freshStartRules M N st.waiting) tt))
-  never st (anOffer k n) h f lent = simp (ne_eqb _ _ (lacks-28 (offerRules st.waiting k n) tt))
-  never st (aSlot U n) h f lent =
-      let same : answer_of st (aSlot U n) ≡ slotSizeAnswer st.running T st.waiting n =
-      ap (λ (X : List ℕ). answer_of st (aSlot X n)) lent.0 ∙ sizes-decide L T st.waiting st.running n f.accepted f.counts in
-      simp (ne_eqb _ _ (λ e. lacks-28 (slotSizeRules st.running T st.waiting n) tt (sym (ap (λ (x : Answer). x.number) same) ∙ e)))
+  never : (st : State) (c : Call) (h : List Call) → InForce st → LentOnly T (c ∷ h) → answered_with ENTRY_ABOVE_COUNTS st c ≡ 0
+  unfolding fresh_start_answer offer_answer slot_size_answer
+  never st (a_fresh_start M N) h f lent = simp (ne_eqb _ _ (lacks_28 (fresh_start_rules M N st.waiting) tt))
+  never st (an_offer k n) h f lent = simp (ne_eqb _ _ (lacks_28 (offer_rules st.waiting k n) tt))
+  never st (a_slot U n) h f lent =
+      let same : answer_of st (a_slot U n) ≡ slot_size_answer st.running T st.waiting n =
+      ap (λ (X : List ℕ). answer_of st (a_slot X n)) lent.0 ∙ sizes_decide L T st.waiting st.running n f.accepted f.counts in
+      simp (ne_eqb _ _ (λ e. lacks_28 (slot_size_rules st.running T st.waiting n) tt (sym (ap (λ (x : Answer). x.number) same) ∙ e)))
 
   rest : (c : Call) (h : List Call) → LentOnly T (c ∷ h) → LentOnly T h
-  rest (aFreshStart M N) h lent = lent
-  rest (anOffer k n) h lent = lent
-  rest (aSlot U n) h lent = lent.1
+  rest (a_fresh_start M N) h lent = lent
+  rest (an_offer k n) h lent = lent
+  rest (a_slot U n) h lent = lent.1
 
   -- but for a fresh start, no call changes frame or ports, and none the number of counts
-  stays : (st : State) (c : Call) → InForce st → freshStartBy st c ≡ 0 → InForce (step st c)
+  stays : (st : State) (c : Call) → InForce st → fresh_start_by st c ≡ 0 → InForce (step st c)
   stays st c f none =
-      record { accepted = go c (done-or st c) none; counts = step-length st c ∙ f.counts }
+      record { accepted = go c (done_or st c) none; counts = step-length st c ∙ f.counts }
     where
       after : (c : Call) (s : State) → step st c ≡ s → AcceptedAt s → AcceptedAt (step st c)
       after c s same acc = subst (λ (x : State). AcceptedAt x) (sym same) acc
 
-      go : (c : Call) → Dec (Done st c) → freshStartBy st c ≡ 0 → AcceptedAt (step st c)
-      go c (no d) none = after c st (step-refused st c refl d) f.accepted
-      go (aFreshStart M N) (yes e) none = absurd (omega (arith, ap one (eq-eqb (answer_of st (aFreshStart M N)).number DONE e)))
-      go (anOffer k n) (yes e) none = after (anOffer k n) (carriedOut st (anOffer k n)) (step-done st (anOffer k n) refl e) f.accepted
-      go (aSlot U n) (yes e) none = after (aSlot U n) (carriedOut st (aSlot U n)) (step-done st (aSlot U n) refl e) f.accepted
+      go : (c : Call) → Dec (Done st c) → fresh_start_by st c ≡ 0 → AcceptedAt (step st c)
+      go c (no d) none = after c st (step_refused st c refl d) f.accepted
+      go (a_fresh_start M N) (yes e) none = absurd (omega (arith, ap one (eq-eqb (answer_of st (a_fresh_start M N)).number DONE e)))
+      go (an_offer k n) (yes e) none = after (an_offer k n) (carried_out st (an_offer k n)) (step-done st (an_offer k n) refl e) f.accepted
+      go (a_slot U n) (yes e) none = after (a_slot U n) (carried_out st (a_slot U n)) (step-done st (a_slot U n) refl e) f.accepted
 
-  none-of-all : (st : State) (h : List Call) → InForce st → LentOnly T h → total freshStartBy st h ≡ 0 → total (answeredWith ENTRY-ABOVE-COUNTS) st h ≡ 0
+  none_of_all : (st : State) (h : List Call) → InForce st → LentOnly T h → total fresh_start_by st h ≡ 0 → total (answered_with ENTRY_ABOVE_COUNTS) st h ≡ 0
   unfolding total
-  none-of-all st [] f lent none = refl
-  none-of-all st (c ∷ h) f lent none =
-      omega (arith, never st c h f lent, none-of-all (step st c) h (stays st c f (omega arith)) (rest c h lent) (omega arith))
+  none_of_all st [] f lent none = refl
+  none_of_all st (c ∷ h) f lent none =
+      omega (arith, never st c h f lent, none_of_all (step st c) h (stays st c f (omega arith)) (rest c h lent) (omega arith))
 
-pub never-in-window : NeverInWindow
-never-in-window L T st calls slots w =
-    none-of-all L T st calls (record { accepted = w.accepted; counts = w.counts }) w.one_table w.no-fresh-start
+pub never_in_window : NeverInWindow
+never_in_window L T st calls slots w =
+    none_of_all L T st calls (record { accepted = w.accepted; counts = w.counts }) w.one_table w.no_fresh_start

@@ -6,20 +6,20 @@ use native.Mathlib.Numerals.{one-add}
 use native.Mathlib.Nat.{add-zero, suc-add}
 use borrow.Author.Tests.{eq-eqb, ne_eqb}
 use Rattle.answers.specs.Sums.{sum}
-use Rattle.answers.proofs.Sums.{sum-none, sum_more}
-use Rattle.forwarding.specs.Forwarding.{nextPosition}
+use Rattle.answers.proofs.Sums.{sum_none, sum_more}
+use Rattle.forwarding.specs.Forwarding.{next_position}
 
 -- f summed over the positions of n slots in a row, the first at p
 unfoldable pub met : (ℕ → ℕ) → ℕ → ℕ → ℕ → ℕ
 met f M p zero = 0
-met f M p (suc n) = f p + met f M (nextPosition M p) n
+met f M p (suc n) = f p + met f M (next_position M p) n
 
 module _ (f : ℕ → ℕ) (M : ℕ) where
-  next_last : (p : ℕ) → p + 1 ≡ M → nextPosition M p ≡ 0
+  next_last : (p : ℕ) → p + 1 ≡ M → next_position M p ≡ 0
   next_last p e = rw (eq-eqb (p + 1) M e)
 
-  next-inner : (p : ℕ) → (p + 1 ≡ M → ⊥) → nextPosition M p ≡ p + 1
-  next-inner p d = rw (ne_eqb (p + 1) M d)
+  next_inner : (p : ℕ) → (p + 1 ≡ M → ⊥) → next_position M p ≡ p + 1
+  next_inner p d = rw (ne_eqb (p + 1) M d)
 
   -- up to the end of the frame, and then n slots more from its start
   to_end : (m p n : ℕ) → p + suc m ≡ M → met f M p (suc m + n) + sum p f ≡ sum M f + met f M 0 n
@@ -33,7 +33,7 @@ module _ (f : ℕ → ℕ) (M : ℕ) where
   to_end (suc m) p n e =
       omega (
         arith,
-        ap (λ (k : ℕ). met f M p k) (suc-add (suc m) n) ∙ ap (λ (q : ℕ). f p + met f M q (suc m + n)) (next-inner p (λ x. omega arith)),
+        ap (λ (k : ℕ). met f M p k) (suc-add (suc m) n) ∙ ap (λ (q : ℕ). f p + met f M q (suc m + n)) (next_inner p (λ x. omega arith)),
         to_end m (p + 1) n (omega arith),
         sum_more p f,
       )
@@ -47,7 +47,7 @@ module _ (f : ℕ → ℕ) (M : ℕ) where
       let same : p + suc (suc n) ≡ p + 1 + suc n = omega arith in
       omega (
         arith,
-        ap (λ (q : ℕ). f p + met f M q (suc n)) (next-inner p (λ x. omega arith)),
+        ap (λ (q : ℕ). f p + met f M q (suc n)) (next_inner p (λ x. omega arith)),
         run_on (suc n) (p + 1) (omega arith),
         sum_more p f,
         ap (λ (k : ℕ). sum k f) same,
@@ -64,5 +64,5 @@ module _ (f : ℕ → ℕ) (M : ℕ) where
         run_on p 0 (omega arith),
         ap (λ (k : ℕ). met f M p k) whole,
         ap (λ (k : ℕ). sum k f) first,
-        sum-none f,
+        sum_none f,
       )

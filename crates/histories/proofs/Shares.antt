@@ -10,17 +10,17 @@ use lib.Dec.{eqb}
 use Rattle.answers.specs.Numbers.{DONE}
 use Rattle.answers.specs.Limits.{Within}
 use Rattle.answers.specs.Sums.{sum, one}
-use Rattle.answers.proofs.Sums.{sum-none, sum-zero, sum-swap}
+use Rattle.answers.proofs.Sums.{sum_none, sum_zero, sum_swap}
 use Rattle.flows.specs.Flows.{IsFlow, cells_of}
 use Rattle.tables.specs.Accepted.{entry, times}
 use Rattle.forwarding.specs.declared.Running.{Running}
-use Rattle.forwarding.specs.Forwarding.{waitingOf}
-use Rattle.forwarding.specs.Calls.{State, Call, aFreshStart, anOffer, aSlot, running_at, answer_of, carriedOut, step}
-use Rattle.histories.specs.Counting.{total, sentBy, slot_by, freshStartBy}
+use Rattle.forwarding.specs.Forwarding.{waiting_of}
+use Rattle.forwarding.specs.Calls.{State, Call, a_fresh_start, an_offer, a_slot, running_at, answer_of, carried_out, step}
+use Rattle.histories.specs.Counting.{total, sent_by, slot_by, fresh_start_by}
 use Rattle.histories.specs.Shares.{LentOnly, Window, UpperShare, LowerShare}
-use Rattle.forwarding.proofs.Done.{Done, Refused, done-or, slot-done, step-done, step-refused}
+use Rattle.forwarding.proofs.Done.{Done, Refused, done_or, slot_done, step-done, step_refused}
 use Rattle.histories.proofs.Rotation.{met, rotation}
-use Rattle.histories.proofs.Keeping.{named, nothing, slot-sends, step-known, kept}
+use Rattle.histories.proofs.Keeping.{named, nothing, slot_sends, step_known, kept}
 
 module _ (k : ℕ) (T : List ℕ) where
   -- how often flow k is named in a column, and over that many slots in a row
@@ -31,112 +31,112 @@ module _ (k : ℕ) (T : List ℕ) where
   meetings st h = met (column st.running) st.running.frame st.running.position (total slot_by st h)
 
   record Share (st : State) (h : List Call) : Type 0 where
-    at_most : total (sentBy k) st h ≤ meetings st h
-    at_least : min (meetings st h) (waitingOf st.waiting k) ≤ total (sentBy k) st h
+    at_most : total (sent_by k) st h ≤ meetings st h
+    at_least : min (meetings st h) (waiting_of st.waiting k) ≤ total (sent_by k) st h
     placed : 0 < total slot_by st h → st.running.position < st.running.frame
 
   -- the slots met from st on, where they number n
-  abbrev metIn : State → ℕ → ℕ
-  metIn st n = met (column st.running) st.running.frame st.running.position n
+  abbrev met_in : State → ℕ → ℕ
+  met_in st n = met (column st.running) st.running.frame st.running.position n
 
-  after-refused : (st : State) (c : Call) (h : List Call) → Refused st c → Share (step st c) h → Share st (c ∷ h)
+  after_refused : (st : State) (c : Call) (h : List Call) → Refused st c → Share (step st c) h → Share st (c ∷ h)
   unfolding total
-  after-refused st c h d later =
-      let same = step-refused st c refl d in
+  after_refused st c h d later =
+      let same = step_refused st c refl d in
       let rest = subst (λ (s : State). Share s h) same later in
       let none = nothing k st c d in
       let slots : slot_by st c + total slot_by (step st c) h ≡ total slot_by st h = omega (arith, ap (λ (s : State). total slot_by s h) same) in
-      let cells = ap (λ (s : State). total (sentBy k) s h) same in
-      let meets = ap (λ (n : ℕ). metIn st n) slots in
+      let cells = ap (λ (s : State). total (sent_by k) s h) same in
+      let meets = ap (λ (n : ℕ). met_in st n) slots in
       record {
         at_most = omega (arith, rest.at_most);
         at_least = omega (arith, rest.at_least);
         placed = λ l. rest.placed (omega arith);
       }
 
-  after-offer : (st : State) (j n : ℕ) (h : List Call) → Within 1 (length st.waiting) k → Done st (anOffer j n)
-      → Share (step st (anOffer j n)) h → Share st (anOffer j n ∷ h)
+  after_offer : (st : State) (j n : ℕ) (h : List Call) → Within 1 (length st.waiting) k → Done st (an_offer j n)
+      → Share (step st (an_offer j n)) h → Share st (an_offer j n ∷ h)
   unfolding total
-  after-offer st j n h known e later =
-      let c = anOffer j n in
+  after_offer st j n h known e later =
+      let c = an_offer j n in
       let after = step-done st c refl e in
       let rest = subst (λ (s : State). Share s h) after later in
-      let slots : slot_by st c + total slot_by (step st c) h ≡ total slot_by (carriedOut st c) h = omega (arith, ap (λ (s : State). total slot_by s h) after) in
-      let cells = ap (λ (s : State). total (sentBy k) s h) after in
-      let meets = ap (λ (m : ℕ). metIn st m) slots in
-      let waits = ap (λ (s : State). waitingOf s.waiting k) after in
+      let slots : slot_by st c + total slot_by (step st c) h ≡ total slot_by (carried_out st c) h = omega (arith, ap (λ (s : State). total slot_by s h) after) in
+      let cells = ap (λ (s : State). total (sent_by k) s h) after in
+      let meets = ap (λ (m : ℕ). met_in st m) slots in
+      let waits = ap (λ (s : State). waiting_of s.waiting k) after in
       record {
         at_most = omega (arith, rest.at_most);
         at_least = omega (arith, rest.at_least, kept k st known c refl);
         placed = λ l. rest.placed (omega arith);
       }
 
-  after-slot : (st : State) (n : ℕ) (h : List Call) → Within 1 (length st.waiting) k → Done st (aSlot T n)
-      → Share (step st (aSlot T n)) h → Share st (aSlot T n ∷ h)
+  after_slot : (st : State) (n : ℕ) (h : List Call) → Within 1 (length st.waiting) k → Done st (a_slot T n)
+      → Share (step st (a_slot T n)) h → Share st (a_slot T n ∷ h)
   unfolding total met
-  after-slot st n h known e later =
-      let c = aSlot T n in
+  after_slot st n h known e later =
+      let c = a_slot T n in
       let after = step-done st c refl e in
       let rest = subst (λ (s : State). Share s h) after later in
-      let slots : slot_by st c + total slot_by (step st c) h ≡ suc (total slot_by (carriedOut st c) h) =
+      let slots : slot_by st c + total slot_by (step st c) h ≡ suc (total slot_by (carried_out st c) h) =
       omega (arith, ap (λ (s : State). total slot_by s h) after, ap one (eq-eqb (answer_of st c).number DONE e)) in
-      let cells = ap (λ (s : State). total (sentBy k) s h) after in
-      let meets = ap (λ (m : ℕ). metIn st m) slots in
-      let waits = ap (λ (s : State). waitingOf s.waiting k) after in
+      let cells = ap (λ (s : State). total (sent_by k) s h) after in
+      let meets = ap (λ (m : ℕ). met_in st m) slots in
+      let waits = ap (λ (s : State). waiting_of s.waiting k) after in
       record {
-        at_most = omega (arith, rest.at_most, slot-sends k st T n known e);
-        at_least = omega (arith, rest.at_least, slot-sends k st T n known e, kept k st known c refl);
-        placed = λ l. (slot-done st.running T st.waiting n refl e).asked.placed;
+        at_most = omega (arith, rest.at_most, slot_sends k st T n known e);
+        at_least = omega (arith, rest.at_least, slot_sends k st T n known e, kept k st known c refl);
+        placed = λ l. (slot_done st.running T st.waiting n refl e).asked.placed;
       }
 
-  share : (st : State) (h : List Call) → Within 1 (length st.waiting) k → LentOnly T h → total freshStartBy st h ≡ 0 → Share st h
+  share : (st : State) (h : List Call) → Within 1 (length st.waiting) k → LentOnly T h → total fresh_start_by st h ≡ 0 → Share st h
   unfolding total met
   share st [] known lent none = record { at_most = omega arith; at_least = omega arith; placed = λ l. absurd (omega arith) }
   share st (c ∷ h) known lent none =
-      go c (done-or st c) lent none (λ l. share (step st c) h (step-known k st c known) l (omega arith))
+      go c (done_or st c) lent none (λ l. share (step st c) h (step_known k st c known) l (omega arith))
     where
-      go : (c : Call) → Dec (Done st c) → LentOnly T (c ∷ h) → total freshStartBy st (c ∷ h) ≡ 0 → (LentOnly T h → Share (step st c) h) → Share st (c ∷ h)
-      go (aFreshStart M N) (no d) lent none later = after-refused st (aFreshStart M N) h d (later lent)
-      go (aFreshStart M N) (yes e) lent none later = absurd (omega (arith, ap one (eq-eqb (answer_of st (aFreshStart M N)).number DONE e)))
-      go (anOffer j n) (no d) lent none later = after-refused st (anOffer j n) h d (later lent)
-      go (anOffer j n) (yes e) lent none later = after-offer st j n h known e (later lent)
-      go (aSlot U n) (no d) lent none later = after-refused st (aSlot U n) h d (later lent.1)
-      go (aSlot U n) (yes e) lent none later =
-          subst (λ (X : List ℕ). Done st (aSlot X n) → Share (step st (aSlot X n)) h → Share st (aSlot X n ∷ h)) (sym lent.0)
-          (after-slot st n h known) e (later lent.1)
+      go : (c : Call) → Dec (Done st c) → LentOnly T (c ∷ h) → total fresh_start_by st (c ∷ h) ≡ 0 → (LentOnly T h → Share (step st c) h) → Share st (c ∷ h)
+      go (a_fresh_start M N) (no d) lent none later = after_refused st (a_fresh_start M N) h d (later lent)
+      go (a_fresh_start M N) (yes e) lent none later = absurd (omega (arith, ap one (eq-eqb (answer_of st (a_fresh_start M N)).number DONE e)))
+      go (an_offer j n) (no d) lent none later = after_refused st (an_offer j n) h d (later lent)
+      go (an_offer j n) (yes e) lent none later = after_offer st j n h known e (later lent)
+      go (a_slot U n) (no d) lent none later = after_refused st (a_slot U n) h d (later lent.1)
+      go (a_slot U n) (yes e) lent none later =
+          subst (λ (X : List ℕ). Done st (a_slot X n) → Share (step st (a_slot X n)) h → Share st (a_slot X n ∷ h)) (sym lent.0)
+          (after_slot st n h known) e (later lent.1)
 
 -- over a whole frame the columns name the flow as often as the table does
-whole-frame : (k : ℕ) (T : List ℕ) (r : Running) → r.position < r.frame
+whole_frame : (k : ℕ) (T : List ℕ) (r : Running) → r.position < r.frame
     → met (column k T r) r.frame r.position r.frame ≡ times r.frame r.ports T k
 unfolding times
-whole-frame k T r l =
+whole_frame k T r l =
     rotation (column k T r) r.frame r.position l
-    ∙ sym (sum-swap r.ports r.frame (λ j p. one (eqb (entry r.frame T j p) k)))
+    ∙ sym (sum_swap r.ports r.frame (λ j p. one (eqb (entry r.frame T j p) k)))
 
 -- a record of no frame has no slots, and its table no entries
-no-frame : (k N : ℕ) (T : List ℕ) → times 0 N T k ≡ 0
+no_frame : (k N : ℕ) (T : List ℕ) → times 0 N T k ≡ 0
 unfolding times
-no-frame k N T = sum-zero N (λ j. sum 0 (λ p. one (eqb (entry 0 T j p) k))) (λ j l. sum-none (λ p. one (eqb (entry 0 T j p) k)))
+no_frame k N T = sum_zero N (λ j. sum 0 (λ p. one (eqb (entry 0 T j p) k))) (λ j l. sum_none (λ p. one (eqb (entry 0 T j p) k)))
 
 module _ (L T : List ℕ) (st : State) (calls : List Call) (k : ℕ) (w : Window L T st calls st.running.frame) (flow : IsFlow L k) where
   known : Within 1 (length st.waiting) k
   known = record { at_least = flow.at_least; at_most = omega (arith, w.counts, flow.at_most) }
 
   shares : Share k T st calls
-  shares = share k T st calls known w.one_table w.no-fresh-start
+  shares = share k T st calls known w.one_table w.no_fresh_start
 
   -- a window of a frame's slots meets the flow exactly as many times as its cells
-  met-cells : meetings k T st calls ≡ cells_of L k
+  met_cells : meetings k T st calls ≡ cells_of L k
   unfolding met
-  met-cells = ap (λ (n : ℕ). metIn k T st n) w.slots-done ∙ go (ℕ_discrete st.running.frame 0) ∙ w.accepted.exact-counts k flow
+  met_cells = ap (λ (n : ℕ). met_in k T st n) w.slots_done ∙ go (ℕ_discrete st.running.frame 0) ∙ w.accepted.exact_counts k flow
     where
-      go : Dec (st.running.frame ≡ 0) → metIn k T st st.running.frame ≡ times st.running.frame st.running.ports T k
+      go : Dec (st.running.frame ≡ 0) → met_in k T st st.running.frame ≡ times st.running.frame st.running.ports T k
       go (yes z) =
-          ap (λ (n : ℕ). metIn k T st n) z ∙ sym (ap (λ (m : ℕ). times m st.running.ports T k) z ∙ no-frame k st.running.ports T)
-      go (no d) = whole-frame k T st.running (shares.placed (omega (arith, w.slots-done)))
+          ap (λ (n : ℕ). met_in k T st n) z ∙ sym (ap (λ (m : ℕ). times m st.running.ports T k) z ∙ no_frame k st.running.ports T)
+      go (no d) = whole_frame k T st.running (shares.placed (omega (arith, w.slots_done)))
 
-pub upper-share : UpperShare
-upper-share L T st calls k w flow = omega (arith, (shares L T st calls k w flow).at_most, met-cells L T st calls k w flow)
+pub upper_share : UpperShare
+upper_share L T st calls k w flow = omega (arith, (shares L T st calls k w flow).at_most, met_cells L T st calls k w flow)
 
-pub lower-share : LowerShare
-lower-share L T st calls k w flow = omega (arith, (shares L T st calls k w flow).at_least, met-cells L T st calls k w flow)
+pub lower_share : LowerShare
+lower_share L T st calls k w flow = omega (arith, (shares L T st calls k w flow).at_least, met_cells L T st calls k w flow)

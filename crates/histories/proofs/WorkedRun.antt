@@ -7,12 +7,12 @@ use native.Mathlib.Omega.{arith}
 use Rattle.answers.specs.Lowest.{lowest}
 use Rattle.answers.specs.Sums.{sum}
 use Rattle.tables.specs.Accepted.{Accepted, times}
-use Rattle.tables.proofs.Judgement.{accepted-then}
-use Rattle.forwarding.specs.Forwarding.{offerAnswer, slotAnswer, served}
-use Rattle.forwarding.specs.Calls.{State, Call, anOffer, aSlot, running_at, state_of, step}
-use Rattle.histories.specs.Counting.{run, total, sentBy}
+use Rattle.tables.proofs.Judgement.{accepted_then}
+use Rattle.forwarding.specs.Forwarding.{offer_answer, slot_answer, served}
+use Rattle.forwarding.specs.Calls.{State, Call, an_offer, a_slot, running_at, state_of, step}
+use Rattle.histories.specs.Counting.{run, total, sent_by}
 use Rattle.histories.specs.Shares.{Window}
-use Rattle.histories.proofs.Shares.{upper-share, lower-share}
+use Rattle.histories.proofs.Shares.{upper_share, lower_share}
 
 abbrev L : List ℕ
 L = 1 ∷ 1 ∷ 3 ∷ 1 ∷ 2 ∷ 2 ∷ 2 ∷ 1 ∷ 2 ∷ []
@@ -26,45 +26,45 @@ opened = state_of (running_at 5 4 3) (1 ∷ 5 ∷ 0 ∷ [])
 
 -- the third slot call's sent buffer is too short, and the last offer is of one cell too many
 abbrev calls : List Call
-calls = aSlot T 4 ∷ anOffer 3 1 ∷ aSlot T 4 ∷ aSlot T 3 ∷ aSlot T 9 ∷ anOffer 1 4000 ∷ anOffer 1 1 ∷ aSlot T 4 ∷ aSlot T 4 ∷ []
+calls = a_slot T 4 ∷ an_offer 3 1 ∷ a_slot T 4 ∷ a_slot T 3 ∷ a_slot T 9 ∷ an_offer 1 4000 ∷ an_offer 1 1 ∷ a_slot T 4 ∷ a_slot T 4 ∷ []
 
 -- flow 1 sends the cell that waited and two that were offered meanwhile, its whole reservation
-flow-1 : total (sentBy 1) opened calls ≡ 3
-unfolding total step sum served offerAnswer slotAnswer lowest
-flow-1 = refl
+flow_1 : total (sent_by 1) opened calls ≡ 3
+unfolding total step sum served offer_answer slot_answer lowest
+flow_1 = refl
 
 -- flow 2 sends its reservation, which waited
-flow-2 : total (sentBy 2) opened calls ≡ 2
-unfolding total step sum served offerAnswer slotAnswer lowest
-flow-2 = refl
+flow_2 : total (sent_by 2) opened calls ≡ 2
+unfolding total step sum served offer_answer slot_answer lowest
+flow_2 = refl
 
 -- flow 3's entry comes up once before a cell is offered and once after
-flow-3 : total (sentBy 3) opened calls ≡ 1
-unfolding total step sum served offerAnswer slotAnswer lowest
-flow-3 = refl
+flow_3 : total (sent_by 3) opened calls ≡ 1
+unfolding total step sum served offer_answer slot_answer lowest
+flow_3 = refl
 
 -- the window ends at the position at which it opened
 closed : run opened calls ≡ state_of (running_at 5 4 3) (3998 ∷ 3 ∷ 0 ∷ [])
-unfolding run step served offerAnswer slotAnswer lowest
+unfolding run step served offer_answer slot_answer lowest
 closed = refl
 
 accepted : Accepted 5 4 L T
 unfolding lowest times sum
-accepted = accepted-then 5 4 L T (refl, (refl, (refl, tt)))
+accepted = accepted_then 5 4 L T (refl, (refl, (refl, tt)))
 
 window : Window L T opened calls 5
-unfolding total step served offerAnswer slotAnswer lowest
-window = record { accepted = accepted; counts = refl; one_table = (refl, (refl, (refl, (refl, (refl, (refl, tt)))))); no-fresh-start = refl; slots-done = refl }
+unfolding total step served offer_answer slot_answer lowest
+window = record { accepted = accepted; counts = refl; one_table = (refl, (refl, (refl, (refl, (refl, (refl, tt)))))); no_fresh_start = refl; slots_done = refl }
 
 -- so the theorems speak of this run: of flow 1 they say 1 to 3 cells, of flow 2 exactly 2
-flow-1-at-most : total (sentBy 1) opened calls ≤ 3
-flow-1-at-most = upper-share L T opened calls 1 window (record { at_least = omega arith; at_most = omega arith })
+flow_1_at_most : total (sent_by 1) opened calls ≤ 3
+flow_1_at_most = upper_share L T opened calls 1 window (record { at_least = omega arith; at_most = omega arith })
 
-flow-1-at-least : 1 ≤ total (sentBy 1) opened calls
-flow-1-at-least = lower-share L T opened calls 1 window (record { at_least = omega arith; at_most = omega arith })
+flow_1_at_least : 1 ≤ total (sent_by 1) opened calls
+flow_1_at_least = lower_share L T opened calls 1 window (record { at_least = omega arith; at_most = omega arith })
 
-flow-2-at-most : total (sentBy 2) opened calls ≤ 2
-flow-2-at-most = upper-share L T opened calls 2 window (record { at_least = omega arith; at_most = omega arith })
+flow_2_at_most : total (sent_by 2) opened calls ≤ 2
+flow_2_at_most = upper_share L T opened calls 2 window (record { at_least = omega arith; at_most = omega arith })
 
-flow-2-at-least : 2 ≤ total (sentBy 2) opened calls
-flow-2-at-least = lower-share L T opened calls 2 window (record { at_least = omega arith; at_most = omega arith })
+flow_2_at_least : 2 ≤ total (sent_by 2) opened calls
+flow_2_at_least = lower_share L T opened calls 2 window (record { at_least = omega arith; at_most = omega arith })

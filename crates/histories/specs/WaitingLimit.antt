@@ -1,8 +1,8 @@
 -- "cells waiting per flow: 0 to 4,000, each flow its own limit".
 use Rattle.std.specs.Prelude.{ℕ, ◌≤◌, ◌≡◌, true, List, length}
-use Rattle.answers.specs.Limits.{maxWaiting, Within}
-use Rattle.forwarding.specs.Forwarding.{waitingOf}
-use Rattle.forwarding.specs.Calls.{State, Call, aFreshStart, step, done}
+use Rattle.answers.specs.Limits.{max_waiting, Within}
+use Rattle.forwarding.specs.Forwarding.{waiting_of}
+use Rattle.forwarding.specs.Calls.{State, Call, a_fresh_start, step, done}
 use Rattle.histories.specs.Counting.{run}
 
 -- from a fresh start on no waiting count passes the limit, whatever is called: any offers, under any tables, further fresh starts and refused calls among them
@@ -10,5 +10,5 @@ abbrev pub NeverPastLimit : Type 0
 NeverPastLimit =
     (k M N : ℕ) (st : State) (calls : List Call)
     → Within 1 (length st.waiting) k
-    → done st (aFreshStart M N) ≡ true
-    → waitingOf (run (step st (aFreshStart M N)) calls).waiting k ≤ maxWaiting
+    → done st (a_fresh_start M N) ≡ true
+    → waiting_of (run (step st (a_fresh_start M N)) calls).waiting k ≤ max_waiting

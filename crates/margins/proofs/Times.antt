@@ -9,51 +9,51 @@ use native.Mathlib.Numerals.{add-one}
 use borrow.Author.Tests.{le-leb, lt-leb}
 use lib.Dec.{leb}
 use Rattle.answers.specs.Lowest.{lowest}
-use Rattle.answers.proofs.Lowest.{lowest-is, lowest-none, Nowhere}
-use Rattle.margins.specs.Margins.{leastTimes}
+use Rattle.answers.proofs.Lowest.{lowest_is, lowest_none, Nowhere}
+use Rattle.margins.specs.Margins.{least_times}
 
-module _ (d n : ℕ) (some : 0 < d) (least : ℕ) (reached : n ≤ least * d) (not-before : (c : ℕ) → c < least → c * d < n) where
+module _ (d n : ℕ) (some : 0 < d) (least : ℕ) (reached : n ≤ least * d) (not_before : (c : ℕ) → c < least → c * d < n) where
   -- a number that reaches n, and no lower number does, is the least
-  pub is-least : least ≡ leastTimes d n
-  unfolding leastTimes
-  is-least = go (dec_lt least n)
+  pub is_least : least ≡ least_times d n
+  unfolding least_times
+  is_least = go (dec_lt least n)
     where
       below : Nowhere 0 least (λ c. leb n (c * d))
-      below c l u = lt-leb n (c * d) (not-before c u)
+      below c l u = lt-leb n (c * d) (not_before c u)
 
       go : Dec (least < n) → least ≡ lowest 0 n (λ c. leb n (c * d))
-      go (yes u) = sym (lowest-is 0 n (λ c. leb n (c * d)) least (omega arith) (omega arith) (le-leb n (least * d) reached) below)
-      go (no h) = omega (arith, all (ℕ_discrete least n), lowest-none 0 n (λ c. leb n (c * d)) (λ c l u. below c l (omega arith)))
+      go (yes u) = sym (lowest_is 0 n (λ c. leb n (c * d)) least (omega arith) (omega arith) (le-leb n (least * d) reached) below)
+      go (no h) = omega (arith, all (ℕ_discrete least n), lowest_none 0 n (λ c. leb n (c * d)) (λ c l u. below c l (omega arith)))
         where
           all : Dec (least ≡ n) → least ≡ n
           all (yes e) = e
-          all (no x) = absurd (omega (arith, not-before n (omega arith), mul-le-mul_left {m = 1} {n = d} n some, mul-one n))
+          all (no x) = absurd (omega (arith, not_before n (omega arith), mul-le-mul_left {m = 1} {n = d} n some, mul-one n))
 
-pub least-by-division : (d n : ℕ) → 0 < d → 0 < n → (n - 1) / d + 1 ≡ leastTimes d n
-least-by-division d n some more =
-    is-least d n some ((n - 1) / d + 1)
+pub least_by_division : (d n : ℕ) → 0 < d → 0 < n → (n - 1) / d + 1 ≡ least_times d n
+least_by_division d n some more =
+    is_least d n some ((n - 1) / d + 1)
     (omega (arith, div-add-mod' (n - 1) d, mod-lt (n - 1) some, suc-mul ((n - 1) / d) d, ap (λ (x : ℕ). x * d) (add-one ((n - 1) / d))))
     (λ c u. omega (arith, div-add-mod' (n - 1) d, mul-le-mul_right {m = c} {n = (n - 1) / d} d (omega arith)))
 
-pub least-of-none : (d : ℕ) → 0 ≡ leastTimes d 0
-unfolding leastTimes
-least-of-none d = sym (lowest-none 0 0 (λ c. leb 0 (c * d)) (λ k l u. absurd (omega arith)))
+pub least_of_none : (d : ℕ) → 0 ≡ least_times d 0
+unfolding least_times
+least_of_none d = sym (lowest_none 0 0 (λ c. leb 0 (c * d)) (λ k l u. absurd (omega arith)))
 
 -- the least number of times reaches n, and no lower number does
-pub least-reaches : (d n : ℕ) → 0 < d → 0 < n → n ≤ leastTimes d n * d
-least-reaches d n some more =
-    omega (arith, ap (λ (x : ℕ). x * d) (least-by-division d n some more), div-add-mod' (n - 1) d, mod-lt (n - 1) some, suc-mul ((n - 1) / d) d, ap (λ (x : ℕ). x * d) (add-one ((n - 1) / d)))
+pub least_reaches : (d n : ℕ) → 0 < d → 0 < n → n ≤ least_times d n * d
+least_reaches d n some more =
+    omega (arith, ap (λ (x : ℕ). x * d) (least_by_division d n some more), div-add-mod' (n - 1) d, mod-lt (n - 1) some, suc-mul ((n - 1) / d) d, ap (λ (x : ℕ). x * d) (add-one ((n - 1) / d)))
 
-pub lower-fails : (d n : ℕ) → 0 < d → 0 < n → (c : ℕ) → c < leastTimes d n → c * d < n
-lower-fails d n some more c u =
-    omega (arith, least-by-division d n some more, div-add-mod' (n - 1) d, mul-le-mul_right {m = c} {n = (n - 1) / d} d (omega (arith, least-by-division d n some more)))
+pub lower_fails : (d n : ℕ) → 0 < d → 0 < n → (c : ℕ) → c < least_times d n → c * d < n
+lower_fails d n some more c u =
+    omega (arith, least_by_division d n some more, div-add-mod' (n - 1) d, mul-le-mul_right {m = c} {n = (n - 1) / d} d (omega (arith, least_by_division d n some more)))
 
-pub least-at-most : (d n : ℕ) → 0 < d → 0 < n → leastTimes d n ≤ n
-least-at-most d n some more = omega (arith, least-by-division d n some more, div-le_self (n - 1) d)
+pub least_at_most : (d n : ℕ) → 0 < d → 0 < n → least_times d n ≤ n
+least_at_most d n some more = omega (arith, least_by_division d n some more, div-le_self (n - 1) d)
 
 -- a number that is at least the divisor goes into it at least once
-pub quotient-some : (n m : ℕ) → 0 < m → m ≤ n → 0 < n / m
-quotient-some n m some h = go (n / m) refl
+pub quotient_some : (n m : ℕ) → 0 < m → m ≤ n → 0 < n / m
+quotient_some n m some h = go (n / m) refl
   where
     go : (q : ℕ) → n / m ≡ q → 0 < q
     go zero e = absurd (omega (arith, div-add-mod' n m, mod-lt n some, ap (λ (x : ℕ). x * m) e, zero-mul m))

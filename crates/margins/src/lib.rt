@@ -1,9 +1,9 @@
 // Delay margins, link room, period fit and the cells of a message. A margin or a room below zero is an answer, not an error.
 ghost use Rattle.std.specs.Prelude.{◌≡◌, ◌<◌, ◌≤◌, pos, ◌-ℤ◌, length};
-ghost use Rattle.answers.specs.Limits.{maxFrame, maxLinks, maxDeadline};
+ghost use Rattle.answers.specs.Limits.{max_frame, max_links, max_deadline};
 ghost use Rattle.answers.specs.Lowest.{lowest};
-ghost use Rattle.margins.specs.Margins.{delaySum, bound, delayOutOfRange, linkOutOfRange, floorDiv, leastTimes};
-ghost use Rattle.margins.specs.Margins.{marginAnswer, roomAnswer, fitAnswer, cellsAnswer};
+ghost use Rattle.margins.specs.Margins.{delay_sum, bound, delay_out_of_range, link_out_of_range, floor_div, least_times};
+ghost use Rattle.margins.specs.Margins.{margin_answer, room_answer, fit_answer, cells_answer};
 
 use answers::{
     Answer, BITS_OUT_OF_RANGE, DEADLINE_OUT_OF_RANGE, DELAY_OUT_OF_RANGE, DONE, LINKS_OUT_OF_RANGE,
@@ -22,7 +22,7 @@ pub const CARRIED_BITS: usize = CELL_BITS - LABEL_BITS;
 
 // One number less another, with its sign.
 fn less(a: usize, b: usize) -> i32
-    requires { (a ≤ maxDeadline) × (b ≤ maxDeadline) }
+    requires { (a ≤ max_deadline) × (b ≤ max_deadline) }
     ensures { result ≡ pos a -ℤ pos b }
 {
     (a as i32) - (b as i32)
@@ -30,8 +30,8 @@ fn less(a: usize, b: usize) -> i32
 
 // A signed number divided by a positive one, rounded down: the division truncates, so a remainder below zero takes one more off.
 fn floor_div(n: i32, d: usize) -> i32
-    requires { (0 < d) × (d ≤ maxDeadline) }
-    ensures { result ≡ floorDiv n d }
+    requires { (0 < d) × (d ≤ max_deadline) }
+    ensures { result ≡ floor_div n d }
 {
     let q = n / (d as i32);
     if n % (d as i32) < 0 {
@@ -43,7 +43,7 @@ fn floor_div(n: i32, d: usize) -> i32
 // The least number of times that d goes to at least n.
 fn least_times(d: usize, n: usize) -> usize
     requires { 0 < d }
-    ensures { result ≡ leastTimes d n }
+    ensures { result ≡ least_times d n }
 {
     if n == 0 {
         return 0;
@@ -53,14 +53,14 @@ fn least_times(d: usize, n: usize) -> usize
 
 // Refusal 25 of one delay.
 fn delay_out_of_range(delay: usize) -> bool
-    ensures { result ≡ delayOutOfRange delay }
+    ensures { result ≡ delay_out_of_range delay }
 {
     answers::outside(1, MAX_DELAY, delay)
 }
 
 // The lowest place that refusal 25 names, from 0, or the list's length.
 fn first_out_of_range(delays: &[u16]) -> usize
-    ensures { result ≡ lowest 0 (length delays.now) (linkOutOfRange delays.now) }
+    ensures { result ≡ lowest 0 (length delays.now) (link_out_of_range delays.now) }
 {
     let mut link = 0;
     while link < delays.len() {
@@ -75,8 +75,8 @@ fn first_out_of_range(delays: &[u16]) -> usize
 // The delays of all links together. That they are 16-bit numbers and not too many is enough for the sum not to wrap: it need not be
 // known that they are in range.
 fn delay_sum(delays: &[u16]) -> usize
-    requires { length delays.now ≤ maxLinks }
-    ensures { result ≡ delaySum delays.now }
+    requires { length delays.now ≤ max_links }
+    ensures { result ≡ delay_sum delays.now }
 {
     let mut total = 0;
     let mut passed = 0;
@@ -89,7 +89,7 @@ fn delay_sum(delays: &[u16]) -> usize
 
 // The delay bound over links with these delays.
 fn delay_bound(frame: usize, delays: &[u16]) -> usize
-    requires { (frame ≤ maxFrame) × (length delays.now ≤ maxLinks) }
+    requires { (frame ≤ max_frame) × (length delays.now ≤ max_links) }
     ensures { result ≡ bound frame delays.now }
 {
     (delays.len() + 1) * frame + delay_sum(delays)
@@ -97,7 +97,7 @@ fn delay_bound(frame: usize, delays: &[u16]) -> usize
 
 // How many slots before the deadline the last cell is in, over links with these delays; below zero where it is late.
 pub fn margin(frame: usize, delays: &[u16], deadline: usize) -> Answer
-    ensures { result ≡ marginAnswer frame delays.now deadline }
+    ensures { result ≡ margin_answer frame delays.now deadline }
 {
     let framed = answers::frame_answer(frame);
     if framed.number != DONE {
@@ -118,7 +118,7 @@ pub fn margin(frame: usize, delays: &[u16], deadline: usize) -> Answer
 
 // How many links of one common delay the deadline leaves room for; below zero where it leaves none for the frame itself.
 pub fn room(frame: usize, delay: usize, deadline: usize) -> Answer
-    ensures { result ≡ roomAnswer frame delay deadline }
+    ensures { result ≡ room_answer frame delay deadline }
 {
     let framed = answers::frame_answer(frame);
     if framed.number != DONE {
@@ -135,7 +135,7 @@ pub fn room(frame: usize, delay: usize, deadline: usize) -> Answer
 
 // The cells per frame that some cells every period need.
 pub fn fit(frame: usize, period: usize, cells: usize) -> Answer
-    ensures { result ≡ fitAnswer frame period cells }
+    ensures { result ≡ fit_answer frame period cells }
 {
     let framed = answers::frame_answer(frame);
     if framed.number != DONE {
@@ -156,7 +156,7 @@ pub fn fit(frame: usize, period: usize, cells: usize) -> Answer
 
 // The cells of a message.
 pub fn cells(bits: usize) -> Answer
-    ensures { result ≡ cellsAnswer bits }
+    ensures { result ≡ cells_answer bits }
 {
     if answers::outside(1, MAX_BITS, bits) {
         return answers::refusal(BITS_OUT_OF_RANGE);

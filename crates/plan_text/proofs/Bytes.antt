@@ -10,19 +10,19 @@ use Rattle.answers.proofs.Ranges.{inside}
 use Rattle.plan_text.specs.declared.recogniser.Field.{Field}
 use Rattle.plan_text.specs.declared.recogniser.Field.TheVariants.{Frame, Ports, Input, Output, Cells}
 use Rattle.plan_text.specs.declared.recogniser.Reader.{Reader}
-use Rattle.plan_text.specs.Digits.{zeroByte}
-use Rattle.plan_text.specs.Reading.{key_of, inKey, isDigit}
+use Rattle.plan_text.specs.Digits.{zero_byte}
+use Rattle.plan_text.specs.Reading.{key_of, in_key, is_digit}
 
-pub key-short : (f : Field) → length (key_of f) ≤ 6
-key-short Frame = omega arith
-key-short Ports = omega arith
-key-short Input = omega arith
-key-short Output = omega arith
-key-short Cells = omega arith
+pub key_short : (f : Field) → length (key_of f) ≤ 6
+key_short Frame = omega arith
+key_short Ports = omega arith
+key_short Input = omega arith
+key_short Output = omega arith
+key_short Cells = omega arith
 
-pub matched-short : (r : Reader) → inKey r ≡ true → r.matched < 6
-matched-short r e = omega (arith, ltb-true r.matched (length (key_of r.field)) e, key-short r.field)
+pub matched_short : (r : Reader) → in_key r ≡ true → r.matched < 6
+matched_short r e = omega (arith, ltb-true r.matched (length (key_of r.field)) e, key_short r.field)
 
 -- the byte of a digit is one of the ten from that of 0
-pub digit-byte : (d : ℕ) → isDigit d ≡ true → Within zeroByte (zeroByte + 9) d
-digit-byte d e = inside (not-true (outside zeroByte (zeroByte + 9) d) e)
+pub digit_byte : (d : ℕ) → is_digit d ≡ true → Within zero_byte (zero_byte + 9) d
+digit_byte d e = inside (not-true (outside zero_byte (zero_byte + 9) d) e)

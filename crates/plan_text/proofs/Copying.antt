@@ -10,8 +10,8 @@ use lib.Seq.{paste, paste-suc, length-paste, take-length}
 use Rattle.plan_text.specs.Plans.{over}
 
 module _ (buffer front : List ℕ) (fits : length front ≤ length buffer) where
-  pub copy-length : (i : ℕ) → i ≤ length front → length (paste buffer 0 front i) ≡ length buffer
-  copy-length i l = length-paste buffer 0 front i (omega arith) l
+  pub copy_length : (i : ℕ) → i ≤ length front → length (paste buffer 0 front i) ≡ length buffer
+  copy_length i l = length-paste buffer 0 front i (omega arith) l
 
   pub copy_more : (i : ℕ) → i < length front → set (paste buffer 0 front i) i (get_or front i 0) ≡ paste buffer 0 front (i + 1)
   copy_more i l =
@@ -19,7 +19,7 @@ module _ (buffer front : List ℕ) (fits : length front ≤ length buffer) where
       ∙ paste-suc buffer 0 front i 0 (omega arith) l
       ∙ ap (λ (k : ℕ). paste buffer 0 front k) (sym (add-one i))
 
-  pub copy-whole : paste buffer 0 front (length front) ≡ over front buffer
-  copy-whole =
+  pub copy_whole : paste buffer 0 front (length front) ≡ over front buffer
+  copy_whole =
       ap (λ (t : List ℕ). t ++ drop (0 + length front) buffer) (take-length front)
       ∙ ap (λ (k : ℕ). front ++ drop k buffer) (zero-add (length front))

@@ -7,14 +7,14 @@ use native.Mathlib.Nat.{add-zero, zero-add}
 use native.Mathlib.Numerals.{add-one}
 use lib.ListN.{length, get_or, take, drop, set, length-append, length-set, take-append-drop}
 use lib.Seq.{take-suc, take-suc-set, take-length, drop-set-lt, drop-drop}
-use Rattle.plan_text.specs.Digits.{zeroByte, digits}
+use Rattle.plan_text.specs.Digits.{zero_byte, digits}
 use Rattle.plan_text.specs.Plans.{Put, over}
-use Rattle.plan_text.proofs.Digits.{digits-small, digits_more}
+use Rattle.plan_text.proofs.Digits.{digits_small, digits_more}
 
 pub put_one : (out : List ℕ) (at b : ℕ) → at < length out → Put out at (b ∷ []) (set out at b) (at + 1)
 put_one out at b u =
     record {
-      next-is = refl;
+      next_is = refl;
       front = ap (λ (k : ℕ). take k (set out at b)) (add-one at) ∙ take-suc-set out at b u;
       beyond = drop-set-lt (at + 1) out at b (omega arith);
     }
@@ -24,13 +24,13 @@ pub put_then : {before mid after : List ℕ} {at next last : ℕ} {xs ys : List 
     → Put before at xs mid next → Put mid next ys after last → Put before at (xs ++ ys) after last
 put_then {before} {mid} {after} {at} {next} {last} {xs} {ys} p q =
     record {
-      next-is = omega (arith, p.next-is, q.next-is, length-append xs ys);
+      next_is = omega (arith, p.next_is, q.next_is, length-append xs ys);
       front = q.front ∙ ap (λ (t : List ℕ). t ++ ys) p.front ∙ append_assoc (take at before) xs ys;
       beyond = q.beyond ∙ further mid ∙ ap (λ (t : List ℕ). drop (length ys) t) p.beyond ∙ sym (further before);
     }
   where
     further : (l : List ℕ) → drop last l ≡ drop (length ys) (drop next l)
-    further l = ap (λ (k : ℕ). drop k l) q.next-is ∙ sym (drop-drop (length ys) next l)
+    further l = ap (λ (k : ℕ). drop k l) q.next_is ∙ sym (drop-drop (length ys) next l)
 
 -- the same bytes under another name
 pub put_as : {before after : List ℕ} {at next : ℕ} {xs ys : List ℕ} → Put before at xs after next → xs ≡ ys → Put before at ys after next
@@ -43,8 +43,8 @@ pub record Begun (before : List ℕ) (at : ℕ) (bytes after : List ℕ) (i : �
   pub front : take (at + i) after ≡ take at before ++ take i bytes
   pub beyond : drop (at + i) after ≡ drop (at + i) before
 
-pub begun-none : (before : List ℕ) (at : ℕ) (bytes : List ℕ) → Begun before at bytes before 0
-begun-none before at bytes =
+pub begun_none : (before : List ℕ) (at : ℕ) (bytes : List ℕ) → Begun before at bytes before 0
+begun_none before at bytes =
     record {
       within = omega arith;
       as_long = refl;
@@ -86,7 +86,7 @@ pub begun_all : {before : List ℕ} {at : ℕ} {bytes after : List ℕ} {i : ℕ
     → Put before at bytes after (at + i)
 begun_all {before} {at} {bytes} {after} {i} g u =
     record {
-      next-is = ap (λ (k : ℕ). at + k) whole;
+      next_is = ap (λ (k : ℕ). at + k) whole;
       front = g.front ∙ ap (λ (k : ℕ). take at before ++ take k bytes) whole ∙ ap (λ (t : List ℕ). take at before ++ t) (take-length bytes);
       beyond = g.beyond;
     }
@@ -95,25 +95,25 @@ begun_all {before} {at} {bytes} {after} {i} g u =
     whole = omega (arith, g.within)
 
 -- the digits of a number, the last one apart
-pub one-digit : (n : ℕ) → n < 10 → (zeroByte + n % 10) ∷ [] ≡ digits n
-one-digit n u = ap (λ (k : ℕ). (zeroByte + k) ∷ []) small ∙ sym (digits-small n u)
+pub one_digit : (n : ℕ) → n < 10 → (zero_byte + n % 10) ∷ [] ≡ digits n
+one_digit n u = ap (λ (k : ℕ). (zero_byte + k) ∷ []) small ∙ sym (digits_small n u)
   where
     small : n % 10 ≡ n
     small = omega arith
 
-pub more-digits : (n : ℕ) → 10 ≤ n → n < 2 ^ 64 → digits (n / 10) ++ (zeroByte + n % 10) ∷ [] ≡ digits n
-more-digits n l f = sym (digits_more (n / 10) (n % 10) (omega arith) (omega arith) (omega arith)) ∙ ap digits whole
+pub more_digits : (n : ℕ) → 10 ≤ n → n < 2 ^ 64 → digits (n / 10) ++ (zero_byte + n % 10) ∷ [] ≡ digits n
+more_digits n l f = sym (digits_more (n / 10) (n % 10) (omega arith) (omega arith) (omega arith)) ∙ ap digits whole
   where
     whole : n / 10 * 10 + n % 10 ≡ n
     whole = omega arith
 
-pub digits-longer : (n : ℕ) → 10 ≤ n → n < 2 ^ 64 → length (digits n) ≡ length (digits (n / 10)) + 1
-digits-longer n l f = ap length (sym (more-digits n l f)) ∙ length-append (digits (n / 10)) ((zeroByte + n % 10) ∷ [])
+pub digits_longer : (n : ℕ) → 10 ≤ n → n < 2 ^ 64 → length (digits n) ≡ length (digits (n / 10)) + 1
+digits_longer n l f = ap length (sym (more_digits n l f)) ∙ length-append (digits (n / 10)) ((zero_byte + n % 10) ∷ [])
 
 -- bytes put at the very front lie over the buffer
-pub put-over : {before after : List ℕ} {next : ℕ} {bytes : List ℕ} → Put before 0 bytes after next → after ≡ over bytes before
-put-over {before} {after} {next} {bytes} p =
+pub put_over : {before after : List ℕ} {next : ℕ} {bytes : List ℕ} → Put before 0 bytes after next → after ≡ over bytes before
+put_over {before} {after} {next} {bytes} p =
     sym (take-append-drop next after)
     ∙ ap (λ (t : List ℕ). t ++ drop next after) p.front
     ∙ ap (λ (t : List ℕ). bytes ++ t) p.beyond
-    ∙ ap (λ (k : ℕ). bytes ++ drop k before) (p.next-is ∙ zero-add (length bytes))
+    ∙ ap (λ (k : ℕ). bytes ++ drop k before) (p.next_is ∙ zero-add (length bytes))

@@ -9,102 +9,102 @@ use lib.Dec.{ltb, eqb}
 use lib.IntN.{pos}
 use lib.ListN.{length, get_or, take, drop, length-map}
 use Rattle.answers.specs.declared.Answer.{Answer}
-use Rattle.answers.specs.Numbers.{TEXT-TOO-LONG, TEXT-NOT-OF-FORM}
-use Rattle.answers.specs.Limits.{maxText}
-use Rattle.answers.specs.Answers.{answer, refusal, doneWith, first}
-use Rattle.flows.specs.Flows.{flowCount}
+use Rattle.answers.specs.Numbers.{TEXT_TOO_LONG, TEXT_NOT_OF_FORM}
+use Rattle.answers.specs.Limits.{max_text}
+use Rattle.answers.specs.Answers.{answer, refusal, done_with, first}
+use Rattle.flows.specs.Flows.{flow_count}
 use Rattle.plan_text.specs.declared.reading.Plan.{Plan}
 use Rattle.plan_text.specs.declared.reading.HowFar.{HowFar}
-use Rattle.plan_text.specs.Reading.{start, lived, pastAll, numbersIn, mayEnd, ofForm, frameIn, portsIn, listIn}
-use Rattle.plan_text.proofs.Running.{lived-most}
-use Rattle.plan_text.proofs.Recognised.{two-numbers}
-use Rattle.plan_text.specs.Plans.{plan_of, planIfDone, overIfDone, takeRules, takeAnswer, takenPlan, takenInto}
-use Rattle.plan_text.specs.Plans.{readAnswer, readPlan, readInto, maxWord, in_words, Scanned}
+use Rattle.plan_text.specs.Reading.{start, lived, past_all, numbers_in, may_end, is_of_form, frame_in, ports_in, list_in}
+use Rattle.plan_text.proofs.Running.{lived_most}
+use Rattle.plan_text.proofs.Recognised.{two_numbers}
+use Rattle.plan_text.specs.Plans.{plan_of, plan_if_done, over_if_done, take_rules, take_answer, taken_plan, taken_into}
+use Rattle.plan_text.specs.Plans.{read_answer, read_plan, read_into, max_word, in_words, Scanned}
 
 module _ (text : List ℕ) where
   -- the answer: over its limit, else not of the form, else as its numbers are taken over
   formed : ℕ → Answer
-  formed room = cond (not (ofForm text)) (answer TEXT-NOT-OF-FORM (pos (lived start text))) (takeAnswer (frameIn text) (portsIn text) (listIn text) room)
+  formed room = cond (not (is_of_form text)) (answer TEXT_NOT_OF_FORM (pos (lived start text))) (take_answer (frame_in text) (ports_in text) (list_in text) room)
 
-  read_is : (room : ℕ) → readAnswer text room ≡ cond (ltb maxText (length text)) (refusal TEXT-TOO-LONG) (formed room)
-  unfolding readAnswer takeAnswer formed
+  read_is : (room : ℕ) → read_answer text room ≡ cond (ltb max_text (length text)) (refusal TEXT_TOO_LONG) (formed room)
+  unfolding read_answer take_answer formed
   read_is room = refl
 
-  plan-is : (room : ℕ) (x : Answer) → x ≡ readAnswer text room → planIfDone x (frameIn text) (portsIn text) (flowCount (listIn text)) ≡ readPlan text room
-  unfolding readPlan
-  plan-is room x e = ap (λ (a : Answer). planIfDone a (frameIn text) (portsIn text) (flowCount (listIn text))) e
+  plan_is : (room : ℕ) (x : Answer) → x ≡ read_answer text room → plan_if_done x (frame_in text) (ports_in text) (flow_count (list_in text)) ≡ read_plan text room
+  unfolding read_plan
+  plan_is room x e = ap (λ (a : Answer). plan_if_done a (frame_in text) (ports_in text) (flow_count (list_in text))) e
 
-  buffer-is : (buffer : List ℕ) (x : Answer) → x ≡ readAnswer text (length buffer) → overIfDone x (listIn text) buffer ≡ readInto text buffer
-  unfolding readInto
-  buffer-is buffer x e = ap (λ (a : Answer). overIfDone a (listIn text) buffer) e
+  buffer_is : (buffer : List ℕ) (x : Answer) → x ≡ read_answer text (length buffer) → over_if_done x (list_in text) buffer ≡ read_into text buffer
+  unfolding read_into
+  buffer_is buffer x e = ap (λ (a : Answer). over_if_done a (list_in text) buffer) e
 
-  pub too_long : maxText < length text → (buffer : List ℕ)
-      → (plan_of (refusal TEXT-TOO-LONG) 0 0 0 ≡ readPlan text (length buffer)) × (buffer ≡ readInto text buffer)
+  pub too_long : max_text < length text → (buffer : List ℕ)
+      → (plan_of (refusal TEXT_TOO_LONG) 0 0 0 ≡ read_plan text (length buffer)) × (buffer ≡ read_into text buffer)
   too_long u buffer =
-      let e = sym (read_is (length buffer) ∙ ap (λ (b : Bool). cond b (refusal TEXT-TOO-LONG) (formed (length buffer))) (lt-ltb maxText (length text) u)) in
-      (plan-is (length buffer) (refusal TEXT-TOO-LONG) e, buffer-is buffer (refusal TEXT-TOO-LONG) e)
+      let e = sym (read_is (length buffer) ∙ ap (λ (b : Bool). cond b (refusal TEXT_TOO_LONG) (formed (length buffer))) (lt-ltb max_text (length text) u)) in
+      (plan_is (length buffer) (refusal TEXT_TOO_LONG) e, buffer_is buffer (refusal TEXT_TOO_LONG) e)
 
-  module _ (short : length text ≤ maxText) where
-    within : (room : ℕ) → readAnswer text room ≡ formed room
-    within room = read_is room ∙ ap (λ (b : Bool). cond b (refusal TEXT-TOO-LONG) (formed room)) (le-ltb maxText (length text) short)
+  module _ (short : length text ≤ max_text) where
+    within : (room : ℕ) → read_answer text room ≡ formed room
+    within room = read_is room ∙ ap (λ (b : Bool). cond b (refusal TEXT_TOO_LONG) (formed room)) (le-ltb max_text (length text) short)
 
-    pub not-formed : ofForm text ≡ false → (at : ℕ) → at ≡ lived start text → (buffer : List ℕ)
-        → (plan_of (answer TEXT-NOT-OF-FORM (pos at)) 0 0 0 ≡ readPlan text (length buffer)) × (buffer ≡ readInto text buffer)
+    pub not_formed : is_of_form text ≡ false → (at : ℕ) → at ≡ lived start text → (buffer : List ℕ)
+        → (plan_of (answer TEXT_NOT_OF_FORM (pos at)) 0 0 0 ≡ read_plan text (length buffer)) × (buffer ≡ read_into text buffer)
     unfolding formed
-    not-formed f at is buffer =
-        let e : answer TEXT-NOT-OF-FORM (pos at) ≡ readAnswer text (length buffer) =
-        ap (λ (n : ℕ). answer TEXT-NOT-OF-FORM (pos n)) is
+    not_formed f at is buffer =
+        let e : answer TEXT_NOT_OF_FORM (pos at) ≡ read_answer text (length buffer) =
+        ap (λ (n : ℕ). answer TEXT_NOT_OF_FORM (pos n)) is
         ∙ sym (within (length buffer)
-        ∙ ap (λ (b : Bool). cond (not b) (answer TEXT-NOT-OF-FORM (pos (lived start text)))
-        (takeAnswer (frameIn text) (portsIn text) (listIn text) (length buffer))) f) in
-        (plan-is (length buffer) (answer TEXT-NOT-OF-FORM (pos at)) e, buffer-is buffer (answer TEXT-NOT-OF-FORM (pos at)) e)
+        ∙ ap (λ (b : Bool). cond (not b) (answer TEXT_NOT_OF_FORM (pos (lived start text)))
+        (take_answer (frame_in text) (ports_in text) (list_in text) (length buffer))) f) in
+        (plan_is (length buffer) (answer TEXT_NOT_OF_FORM (pos at)) e, buffer_is buffer (answer TEXT_NOT_OF_FORM (pos at)) e)
 
-    module _ (f : ofForm text ≡ true) where
-      taken_is : (room : ℕ) → takeAnswer (frameIn text) (portsIn text) (listIn text) room ≡ readAnswer text room
+    module _ (f : is_of_form text ≡ true) where
+      taken_is : (room : ℕ) → take_answer (frame_in text) (ports_in text) (list_in text) room ≡ read_answer text room
       unfolding formed
       taken_is room =
           sym (within room
-          ∙ ap (λ (b : Bool). cond (not b) (answer TEXT-NOT-OF-FORM (pos (lived start text)))
-          (takeAnswer (frameIn text) (portsIn text) (listIn text) room)) f)
+          ∙ ap (λ (b : Bool). cond (not b) (answer TEXT_NOT_OF_FORM (pos (lived start text)))
+          (take_answer (frame_in text) (ports_in text) (list_in text) room)) f)
 
-      pub numbers-decide : (buffer : List ℕ)
-          → (takenPlan (numbersIn start text) (length buffer) ≡ readPlan text (length buffer))
-          × (takenInto (numbersIn start text) buffer ≡ readInto text buffer)
-      unfolding takenPlan takenInto frameIn portsIn listIn
-      numbers-decide buffer = (plan-is (length buffer) _ (taken_is (length buffer)), buffer-is buffer _ (taken_is (length buffer)))
+      pub numbers_decide : (buffer : List ℕ)
+          → (taken_plan (numbers_in start text) (length buffer) ≡ read_plan text (length buffer))
+          × (taken_into (numbers_in start text) buffer ≡ read_into text buffer)
+      unfolding taken_plan taken_into frame_in ports_in list_in
+      numbers_decide buffer = (plan_is (length buffer) _ (taken_is (length buffer)), buffer_is buffer _ (taken_is (length buffer)))
 
   -- whether the text is of the form, by how far it was read and where that may be the end
-  pub cut_short : lived start text < length text → ofForm text ≡ false
-  unfolding ofForm
-  cut_short u = ap (λ (b : Bool). b && mayEnd (pastAll start text)) (ne_eqb (lived start text) (length text) (λ x. omega arith))
+  pub cut_short : lived start text < length text → is_of_form text ≡ false
+  unfolding is_of_form
+  cut_short u = ap (λ (b : Bool). b && may_end (past_all start text)) (ne_eqb (lived start text) (length text) (λ x. omega arith))
 
-  pub read_through : lived start text ≡ length text → (b : Bool) → mayEnd (pastAll start text) ≡ b → ofForm text ≡ b
-  unfolding ofForm
-  read_through e b m = ap (λ (x : Bool). x && mayEnd (pastAll start text)) (eq-eqb (lived start text) (length text) e) ∙ m
+  pub read_through : lived start text ≡ length text → (b : Bool) → may_end (past_all start text) ≡ b → is_of_form text ≡ b
+  unfolding is_of_form
+  read_through e b m = ap (λ (x : Bool). x && may_end (past_all start text)) (eq-eqb (lived start text) (length text) e) ∙ m
 
 -- what a scan tells
 module _ (text numbers : List ℕ) (s : HowFar) (scanned : Scanned text numbers s) where
   pub far_within : s.at ≤ length text
-  far_within = omega (arith, scanned.as-far, lived-most start text)
+  far_within = omega (arith, scanned.as_far, lived_most start text)
 
   module _ (through : length text ≤ s.at) where
     pub to_the_end : s.at ≡ length text
     to_the_end = omega (arith, far_within)
 
-    all-lived : lived start text ≡ length text
-    all-lived = sym scanned.as-far ∙ to_the_end
+    all_lived : lived start text ≡ length text
+    all_lived = sym scanned.as_far ∙ to_the_end
 
-    pub form-is : (b : Bool) → b ≡ mayEnd s.reader → ofForm text ≡ b
-    form-is b m = read_through text all-lived b (ap mayEnd (sym (scanned.stands to_the_end)) ∙ sym m)
+    pub form_is : (b : Bool) → b ≡ may_end s.reader → is_of_form text ≡ b
+    form_is b m = read_through text all_lived b (ap may_end (sym (scanned.stands to_the_end)) ∙ sym m)
 
-    pub numbers-kept : take s.count numbers ≡ in_words (numbersIn start text)
-    numbers-kept = scanned.kept to_the_end
+    pub numbers_kept : take s.count numbers ≡ in_words (numbers_in start text)
+    numbers_kept = scanned.kept to_the_end
 
-    pub two-kept : (b : Bool) → b ≡ mayEnd s.reader → b ≡ true → 2 ≤ length (take s.count numbers)
-    two-kept b m t =
+    pub two_kept : (b : Bool) → b ≡ may_end s.reader → b ≡ true → 2 ≤ length (take s.count numbers)
+    two_kept b m t =
         omega (
           arith,
-          ap length numbers-kept,
-          length-map (numbersIn start text) (λ n. min n maxWord),
-          two-numbers text (form-is b m ∙ t),
+          ap length numbers_kept,
+          length-map (numbers_in start text) (λ n. min n max_word),
+          two_numbers text (form_is b m ∙ t),
         )

@@ -10,87 +10,87 @@ use Rattle.answers.specs.Limits.{outside}
 use Rattle.answers.proofs.Ranges.{inside, both_true}
 use Rattle.plan_text.specs.declared.recogniser.Field.{Field}
 use Rattle.plan_text.specs.declared.recogniser.Reader.{Reader}
-use Rattle.plan_text.specs.Form.{maxNumber}
-use Rattle.plan_text.specs.Reading.{key_of, end_of, nextField, inKey, isDigit, mayGrow, takes, past, beforeField, pastKeyByte, pastDigit, start}
-use Rattle.plan_text.proofs.Bytes.{digit-byte}
+use Rattle.plan_text.specs.Form.{max_number}
+use Rattle.plan_text.specs.Reading.{key_of, end_of, next_field, in_key, is_digit, may_grow, takes, past, before_field, past_key_byte, past_digit, start}
+use Rattle.plan_text.proofs.Bytes.{digit_byte}
 
 -- the three ways in which a byte is taken, and where the reading then stands
 pub data Taken (r : Reader) (b : ℕ) : Type 0 where
-  of-key : inKey r ≡ true → b ≡ get_or (key_of r.field) r.matched 0 → past r b ≡ pastKeyByte r → Taken r b
-  digit : inKey r ≡ false → isDigit b ≡ true → mayGrow r ≡ true → past r b ≡ pastDigit r b → Taken r b
-  ending : inKey r ≡ false → isDigit b ≡ false → r.started ≡ true → b ≡ end_of r.field
-      → past r b ≡ beforeField (nextField r.field) → Taken r b
+  of_key : in_key r ≡ true → b ≡ get_or (key_of r.field) r.matched 0 → past r b ≡ past_key_byte r → Taken r b
+  digit : in_key r ≡ false → is_digit b ≡ true → may_grow r ≡ true → past r b ≡ past_digit r b → Taken r b
+  ending : in_key r ≡ false → is_digit b ≡ false → r.started ≡ true → b ≡ end_of r.field
+      → past r b ≡ before_field (next_field r.field) → Taken r b
 
 -- where the reading stands after a byte of the key, a digit, and an end
-pub past-key : (r : Reader) (b : ℕ) → inKey r ≡ true → past r b ≡ pastKeyByte r
+pub past_key : (r : Reader) (b : ℕ) → in_key r ≡ true → past r b ≡ past_key_byte r
 unfolding past
-past-key r b e =
-    ap (λ (k : Bool). cond k (pastKeyByte r) (cond (isDigit b) (pastDigit r b) (beforeField (nextField r.field)))) e
+past_key r b e =
+    ap (λ (k : Bool). cond k (past_key_byte r) (cond (is_digit b) (past_digit r b) (before_field (next_field r.field)))) e
 
-pub past-digit : (r : Reader) (b : ℕ) → inKey r ≡ false → isDigit b ≡ true → past r b ≡ pastDigit r b
+pub past_digit_lem : (r : Reader) (b : ℕ) → in_key r ≡ false → is_digit b ≡ true → past r b ≡ past_digit r b
 unfolding past
-past-digit r b e d =
-    ap (λ (k : Bool). cond k (pastKeyByte r) (cond (isDigit b) (pastDigit r b) (beforeField (nextField r.field)))) e
-    ∙ ap (λ (k : Bool). cond k (pastDigit r b) (beforeField (nextField r.field))) d
+past_digit_lem r b e d =
+    ap (λ (k : Bool). cond k (past_key_byte r) (cond (is_digit b) (past_digit r b) (before_field (next_field r.field)))) e
+    ∙ ap (λ (k : Bool). cond k (past_digit r b) (before_field (next_field r.field))) d
 
-pub past_end : (r : Reader) (b : ℕ) → inKey r ≡ false → isDigit b ≡ false → past r b ≡ beforeField (nextField r.field)
+pub past_end : (r : Reader) (b : ℕ) → in_key r ≡ false → is_digit b ≡ false → past r b ≡ before_field (next_field r.field)
 unfolding past
 past_end r b e d =
-    ap (λ (k : Bool). cond k (pastKeyByte r) (cond (isDigit b) (pastDigit r b) (beforeField (nextField r.field)))) e
-    ∙ ap (λ (k : Bool). cond k (pastDigit r b) (beforeField (nextField r.field))) d
+    ap (λ (k : Bool). cond k (past_key_byte r) (cond (is_digit b) (past_digit r b) (before_field (next_field r.field)))) e
+    ∙ ap (λ (k : Bool). cond k (past_digit r b) (before_field (next_field r.field))) d
 
 pub taken : (r : Reader) (b : ℕ) → takes r b ≡ true → Taken r b
 unfolding takes
-taken r b e = go (inKey r) (isDigit b) refl refl e
+taken r b e = go (in_key r) (is_digit b) refl refl e
   where
-    go : (k d : Bool) → inKey r ≡ k → isDigit b ≡ d
-        → cond k (eqb b (get_or (key_of r.field) r.matched 0)) (cond d (mayGrow r) (r.started && eqb b (end_of r.field))) ≡ true → Taken r b
-    go true d ek ed h = of-key ek (eqb-true _ _ h) (past-key r b ek)
-    go false true ek ed h = digit ek ed h (past-digit r b ek ed)
+    go : (k d : Bool) → in_key r ≡ k → is_digit b ≡ d
+        → cond k (eqb b (get_or (key_of r.field) r.matched 0)) (cond d (may_grow r) (r.started && eqb b (end_of r.field))) ≡ true → Taken r b
+    go true d ek ed h = of_key ek (eqb-true _ _ h) (past_key r b ek)
+    go false true ek ed h = digit ek ed h (past_digit_lem r b ek ed)
     go false false ek ed h =
         let x = both_true r.started (eqb b (end_of r.field)) h in
         ending ek ed x.0 (eqb-true _ _ x.1) (past_end r b ek ed)
 
 -- the number so far has at most five digits and is 0 before its first; it begins behind the key
 pub record Standing (r : Reader) : Type 0 where
-  pub value-short : r.value ≤ maxNumber
+  pub value_short : r.value ≤ max_number
   pub fresh : r.started ≡ false → r.value ≡ 0
-  pub key-first : inKey r ≡ true → r.started ≡ false
-  pub key-most : r.matched ≤ length (key_of r.field)
+  pub key_first : in_key r ≡ true → r.started ≡ false
+  pub key_most : r.matched ≤ length (key_of r.field)
 
 -- before a field nothing has come
-pub stands-before : (f : Field) → Standing (beforeField f)
-stands-before f = record { value-short = omega arith; fresh = λ e. refl; key-first = λ e. refl; key-most = omega arith }
+pub stands_before : (f : Field) → Standing (before_field f)
+stands_before f = record { value_short = omega arith; fresh = λ e. refl; key_first = λ e. refl; key_most = omega arith }
 
-pub stands-start : Standing start
-stands-start = stands-before start.field
+pub stands_start : Standing start
+stands_start = stands_before start.field
 
 -- a number that may grow is below 10000
-grows-small : (r : Reader) → Standing r → mayGrow r ≡ true → r.value ≤ 9999
-grows-small r s h = go r.started refl h
+grows_small : (r : Reader) → Standing r → may_grow r ≡ true → r.value ≤ 9999
+grows_small r s h = go r.started refl h
   where
-    go : (t : Bool) → r.started ≡ t → (not t || not (outside 1 (maxNumber / 10) r.value)) ≡ true → r.value ≤ 9999
+    go : (t : Bool) → r.started ≡ t → (not t || not (outside 1 (max_number / 10) r.value)) ≡ true → r.value ≤ 9999
     go true e x = (inside {low = 1} {high = 9999} (not-true _ x)).at_most
     go false e x = omega (arith, s.fresh e)
 
-pub stands-past : (r : Reader) (b : ℕ) → Standing r → takes r b ≡ true → Standing (past r b)
-stands-past r b s e = go (taken r b e)
+pub stands_past : (r : Reader) (b : ℕ) → Standing r → takes r b ≡ true → Standing (past r b)
+stands_past r b s e = go (taken r b e)
   where
     go : Taken r b → Standing (past r b)
-    go (of-key k h p) =
+    go (of_key k h p) =
         subst Standing (sym p)
         (record {
-          value-short = s.value-short;
+          value_short = s.value_short;
           fresh = s.fresh;
-          key-first = λ x. s.key-first k;
-          key-most = omega (arith, ltb-true r.matched (length (key_of r.field)) k);
+          key_first = λ x. s.key_first k;
+          key_most = omega (arith, ltb-true r.matched (length (key_of r.field)) k);
         })
     go (digit k d h p) =
         subst Standing (sym p)
         (record {
-          value-short = omega (arith, grows-small r s h, (digit-byte b d).at_most);
+          value_short = omega (arith, grows_small r s h, (digit_byte b d).at_most);
           fresh = λ x. absurd (true≢false x);
-          key-first = λ x. absurd (true≢false (sym x ∙ k));
-          key-most = s.key-most;
+          key_first = λ x. absurd (true≢false (sym x ∙ k));
+          key_most = s.key_most;
         })
-    go (ending k d t h p) = subst Standing (sym p) (stands-before (nextField r.field))
+    go (ending k d t h p) = subst Standing (sym p) (stands_before (next_field r.field))

@@ -3,7 +3,7 @@ ghost use Rattle.std.specs.Prelude.{◌≡◌, ◌∷◌, ◌+◌, ◌≤◌, le
 ghost use Rattle.plan_text.specs.Digits.{digits};
 ghost use Rattle.plan_text.specs.Form.{comma};
 ghost use Rattle.plan_text.specs.Plans.{Put};
-ghost use Rattle.plan_text.specs.Lines.{signed, joined, joinedTail, answerLine, outLine};
+ghost use Rattle.plan_text.specs.Lines.{signed, joined, joined_tail, answer_line, out_line};
 
 use crate::keys::{ANSWER_KEY, COMMA, LINE_FEED, MINUS, OUT_KEY};
 use crate::writing::{put_byte, put_bytes, put_number};
@@ -23,8 +23,8 @@ pub fn put_signed(out: &mut [u8], at: usize, n: i32) -> usize
 
 // Puts the line of an answer.
 pub fn put_answer(out: &mut [u8], at: usize, number: u32, detail: i32) -> usize
-    requires { at + length (answerLine number detail) ≤ length out.old }
-    ensures { Put out.old at (answerLine number detail) out.new result }
+    requires { at + length (answer_line number detail) ≤ length out.old }
+    ensures { Put out.old at (answer_line number detail) out.new result }
 {
     let first = put_bytes(out, at, &ANSWER_KEY);
     let second = put_number(out, first, number as u64);
@@ -44,8 +44,8 @@ fn put_after_comma(out: &mut [u8], at: usize, entry: u8) -> usize
 
 // Puts the entries of a row but the first, each after a comma.
 fn put_tail(out: &mut [u8], at: usize, row: &[u8]) -> usize
-    requires { at + length (joinedTail (drop 1 row.now)) ≤ length out.old }
-    ensures { Put out.old at (joinedTail (drop 1 row.now)) out.new result }
+    requires { at + length (joined_tail (drop 1 row.now)) ≤ length out.old }
+    ensures { Put out.old at (joined_tail (drop 1 row.now)) out.new result }
 {
     let mut next = at;
     let mut slot = 1;
@@ -70,8 +70,8 @@ fn put_entries(out: &mut [u8], at: usize, row: &[u8]) -> usize
 
 // Puts the line of an output's row.
 pub fn put_row(out: &mut [u8], at: usize, row: &[u8]) -> usize
-    requires { at + length (outLine row.now) ≤ length out.old }
-    ensures { Put out.old at (outLine row.now) out.new result }
+    requires { at + length (out_line row.now) ≤ length out.old }
+    ensures { Put out.old at (out_line row.now) out.new result }
 {
     let first = put_bytes(out, at, &OUT_KEY);
     let end = put_entries(out, first, row);

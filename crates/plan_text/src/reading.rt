@@ -1,9 +1,9 @@
 // Reading a plan text into a lent buffer. Nothing is written there before the whole text is judged.
 ghost use Rattle.std.specs.Prelude.{◌≡◌, cond, ◌++◌, min, ◌+◌, ◌<◌, ◌≤◌, length, set, drop};
-ghost use Rattle.answers.specs.Limits.{maxText};
-ghost use Rattle.plan_text.specs.Form.{maxNumber};
-ghost use Rattle.plan_text.specs.Reading.{endsNumber};
-ghost use Rattle.plan_text.specs.Plans.{plan_of, maxWord, over, Scanned, takenPlan, takenInto, readPlan, readInto};
+ghost use Rattle.answers.specs.Limits.{max_text};
+ghost use Rattle.plan_text.specs.Form.{max_number};
+ghost use Rattle.plan_text.specs.Reading.{ends_number};
+ghost use Rattle.plan_text.specs.Plans.{plan_of, max_word, over, Scanned, taken_plan, taken_into, read_plan, read_into};
 
 use crate::recogniser::{Field, Reader, before_field, ends_number, may_end, past, takes};
 use answers::{Answer, BUFFER_TOO_SMALL, DONE, MAX_TEXT, TEXT_NOT_OF_FORM, TEXT_TOO_LONG};
@@ -30,7 +30,7 @@ pub struct HowFar {
 
 // A number in 16 bits: what does not fit is kept as the largest, which is out of every range.
 fn in_word(n: usize) -> u16
-    ensures { result ≡ min n maxWord }
+    ensures { result ≡ min n max_word }
 {
     if n < MAX_WORD {
         return n as u16;
@@ -41,9 +41,9 @@ fn in_word(n: usize) -> u16
 // Keeps the number that a byte ends, if it ends one; hands back how many are kept.
 fn keep(reader: Reader, b: u8, numbers: &mut [u16], count: usize) -> usize
     requires { count < length numbers.old }
-    ensures kept { result ≡ cond (endsNumber reader b) (count + 1) count }
+    ensures kept { result ≡ cond (ends_number reader b) (count + 1) count }
     ensures stored { numbers.new
-        ≡ cond (endsNumber reader b) (set numbers.old count (min reader.value maxWord)) numbers.old }
+        ≡ cond (ends_number reader b) (set numbers.old count (min reader.value max_word)) numbers.old }
 {
     if ends_number(reader, b) {
         numbers[count] = in_word(reader.value);
@@ -99,8 +99,8 @@ fn put_over(front: &[u16], buffer: &mut [u16])
 // Judges the numbers of a text of the form, frame and ports first, and takes them over if nothing is to be refused.
 fn take_over(numbers: &[u16], list: &mut [u16]) -> Plan
     requires { 2 ≤ length numbers.now }
-    ensures handed { result ≡ takenPlan numbers.now (length list.old) }
-    ensures left { list.new ≡ takenInto numbers.now list.old }
+    ensures handed { result ≡ taken_plan numbers.now (length list.old) }
+    ensures left { list.new ≡ taken_into numbers.now list.old }
 {
     let frame = numbers[0] as usize;
     let ports = numbers[1] as usize;
@@ -124,8 +124,8 @@ fn take_over(numbers: &[u16], list: &mut [u16]) -> Plan
 
 // Reads a plan text: the flow count as the detail, frame and ports beside it, and the list into the lent buffer.
 pub fn read(text: &[u8], list: &mut [u16]) -> Plan
-    ensures handed { result ≡ readPlan text.now (length list.old) }
-    ensures left { list.new ≡ readInto text.now list.old }
+    ensures handed { result ≡ read_plan text.now (length list.old) }
+    ensures left { list.new ≡ read_into text.now list.old }
 {
     if MAX_TEXT < text.len() {
         return refused(answers::refusal(TEXT_TOO_LONG));

@@ -1,7 +1,7 @@
 // The recogniser: a text of the form, byte by byte. It says which byte may come next, and where the form breaks.
 ghost use Rattle.std.specs.Prelude.{◌≡◌, true, ◌<◌, ◌≤◌, length, get_or};
-ghost use Rattle.plan_text.specs.Form.{maxNumber};
-ghost use Rattle.plan_text.specs.Reading.{key_of, end_of, nextField, isInput, inKey, isDigit, mayGrow, takes, endsNumber, beforeField, past, mayEnd};
+ghost use Rattle.plan_text.specs.Form.{max_number};
+ghost use Rattle.plan_text.specs.Reading.{key_of, end_of, next_field, is_input, in_key, is_digit, may_grow, takes, ends_number, before_field, past, may_end};
 
 use crate::keys::{COMMA, FLOW_KEY, FRAME_KEY, LINE_FEED, MAX_NUMBER, PORTS_KEY, ZERO_BYTE};
 
@@ -57,7 +57,7 @@ fn end_byte(field: Field) -> u8
 
 // The field after a field's end.
 fn next_field(field: Field) -> Field
-    ensures { result ≡ nextField field }
+    ensures { result ≡ next_field field }
 {
     match field {
         Field::Frame => Field::Ports,
@@ -70,7 +70,7 @@ fn next_field(field: Field) -> Field
 
 // Whether the field is an input.
 fn is_input(field: Field) -> bool
-    ensures { result ≡ isInput field }
+    ensures { result ≡ is_input field }
 {
     match field {
         Field::Frame => false,
@@ -92,7 +92,7 @@ pub struct Reader {
 
 // Before any byte of a field.
 pub fn before_field(field: Field) -> Reader
-    ensures { result ≡ beforeField field }
+    ensures { result ≡ before_field field }
 {
     Reader {
         field,
@@ -104,21 +104,21 @@ pub fn before_field(field: Field) -> Reader
 
 // Whether bytes of the key are still to come.
 fn in_key(r: Reader) -> bool
-    ensures { result ≡ inKey r }
+    ensures { result ≡ in_key r }
 {
     let field = r.field;
     r.matched < key_length(field)
 }
 
 fn is_digit(b: u8) -> bool
-    ensures { result ≡ isDigit b }
+    ensures { result ≡ is_digit b }
 {
     !answers::outside(ZERO_BYTE, ZERO_BYTE + 9, b as usize)
 }
 
 // Whether one more digit leaves a number without a leading 0 and of at most 5 digits.
 fn may_grow(r: Reader) -> bool
-    ensures { result ≡ mayGrow r }
+    ensures { result ≡ may_grow r }
 {
     if !r.started {
         return true;
@@ -145,7 +145,7 @@ pub fn takes(r: Reader, b: u8) -> bool
 
 // Whether the byte ends a number.
 pub fn ends_number(r: Reader, b: u8) -> bool
-    ensures { result ≡ endsNumber r b }
+    ensures { result ≡ ends_number r b }
 {
     if in_key(r) {
         return false;
@@ -155,7 +155,7 @@ pub fn ends_number(r: Reader, b: u8) -> bool
 
 // Where the reading stands after a byte that it takes.
 pub fn past(r: Reader, b: u8) -> Reader
-    requires { (takes r b ≡ true) × (r.value ≤ maxNumber) }
+    requires { (takes r b ≡ true) × (r.value ≤ max_number) }
     ensures { result ≡ past r b }
 {
     let field = r.field;
@@ -180,7 +180,7 @@ pub fn past(r: Reader, b: u8) -> Reader
 
 // Whether a text may end here.
 pub fn may_end(r: Reader) -> bool
-    ensures { result ≡ mayEnd r }
+    ensures { result ≡ may_end r }
 {
     let field = r.field;
     if !is_input(field) {

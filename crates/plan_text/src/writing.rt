@@ -1,9 +1,9 @@
 // Writing a plan text. The text is composed apart, so that the lent buffer changes only if all of it has room.
 ghost use Rattle.std.specs.Prelude.{◌≡◌, ◌∷◌, [], ◌++◌, ◌+◌, ◌*◌, ◌%◌, ◌<◌, ◌≤◌, length};
-ghost use Rattle.flows.specs.Flows.{perFlow, flowCount};
-ghost use Rattle.plan_text.specs.Digits.{zeroByte, digits};
-ghost use Rattle.plan_text.specs.Form.{line, flowLine, flowLines, planText};
-ghost use Rattle.plan_text.specs.Plans.{Put, writeAnswer, writtenInto};
+ghost use Rattle.flows.specs.Flows.{per_flow, flow_count};
+ghost use Rattle.plan_text.specs.Digits.{zero_byte, digits};
+ghost use Rattle.plan_text.specs.Form.{line, flow_line, flow_lines, text_of_plan};
+ghost use Rattle.plan_text.specs.Plans.{Put, write_answer, written_into};
 
 use crate::keys::{COMMA, FLOW_KEY, FRAME_KEY, LINE_FEED, PORTS_KEY, ZERO_BYTE};
 use answers::{Answer, BUFFER_TOO_SMALL, DONE, MAX_TEXT};
@@ -32,7 +32,7 @@ pub fn put_bytes(out: &mut [u8], at: usize, bytes: &[u8]) -> usize
 
 // The byte of a number's last digit.
 fn last_digit(n: u64) -> u8
-    ensures { result ≡ zeroByte + n % 10 }
+    ensures { result ≡ zero_byte + n % 10 }
 {
     (ZERO_BYTE as u64 + n % 10) as u8
 }
@@ -69,8 +69,8 @@ fn put_line(out: &mut [u8], at: usize, key: &[u8], n: usize) -> usize
 
 // Puts a flow's line.
 fn put_flow(out: &mut [u8], at: usize, input: usize, output: usize, cells: usize) -> usize
-    requires { at + length (flowLine input output cells) ≤ length out.old }
-    ensures { Put out.old at (flowLine input output cells) out.new result }
+    requires { at + length (flow_line input output cells) ≤ length out.old }
+    ensures { Put out.old at (flow_line input output cells) out.new result }
 {
     let first = put_bytes(out, at, &FLOW_KEY);
     let second = put_ended(out, first, input, COMMA);
@@ -80,9 +80,9 @@ fn put_flow(out: &mut [u8], at: usize, input: usize, output: usize, cells: usize
 
 // Puts the lines of the flows from the first on.
 fn put_flows(out: &mut [u8], at: usize, list: &[u16]) -> usize
-    requires list_in_bounds { at + length (flowLines list.now) ≤ length out.old }
-    requires list_len { length list.now ≡ perFlow * flowCount list.now }
-    ensures { Put out.old at (flowLines list.now) out.new result }
+    requires list_in_bounds { at + length (flow_lines list.now) ≤ length out.old }
+    requires list_len { length list.now ≡ per_flow * flow_count list.now }
+    ensures { Put out.old at (flow_lines list.now) out.new result }
 {
     let count = flows::flow_count(list);
     let mut next = at;
@@ -100,9 +100,9 @@ fn put_flows(out: &mut [u8], at: usize, list: &[u16]) -> usize
 
 // Puts the text of a plan at the front of a buffer; hands back its length.
 fn put_plan(frame: usize, ports: usize, list: &[u16], out: &mut [u8]) -> usize
-    requires list_in_bounds { length (planText frame ports list.now) ≤ length out.old }
-    requires list_len { length list.now ≡ perFlow * flowCount list.now }
-    ensures { Put out.old 0 (planText frame ports list.now) out.new result }
+    requires list_in_bounds { length (text_of_plan frame ports list.now) ≤ length out.old }
+    requires list_len { length list.now ≡ per_flow * flow_count list.now }
+    ensures { Put out.old 0 (text_of_plan frame ports list.now) out.new result }
 {
     let second = put_line(out, 0, &FRAME_KEY, frame);
     let third = put_line(out, second, &PORTS_KEY, ports);
@@ -111,8 +111,8 @@ fn put_plan(frame: usize, ports: usize, list: &[u16], out: &mut [u8]) -> usize
 
 // Writes a plan as its text into the lent buffer; the detail is the bytes written.
 pub fn write(frame: usize, ports: usize, list: &[u16], out: &mut [u8]) -> Answer
-    ensures answered { result ≡ writeAnswer frame ports list.now (length out.old) }
-    ensures left { out.new ≡ writtenInto frame ports list.now out.old }
+    ensures answered { result ≡ write_answer frame ports list.now (length out.old) }
+    ensures left { out.new ≡ written_into frame ports list.now out.old }
 {
     let listed = flows::list_answer(frame, ports, list);
     if listed.number != DONE {

@@ -9,88 +9,88 @@ use borrow.Author.Tests.{eq-eqb, ne_eqb}
 use lib.ListN.{length, length-take}
 use Rattle.answers.specs.declared.Answer.{Answer}
 use Rattle.answers.specs.Numbers.{DONE}
-use Rattle.answers.specs.Limits.{maxFrame, maxPorts}
-use Rattle.answers.specs.Answers.{isDone}
-use Rattle.flows.specs.Flows.{flowCount, InRange}
+use Rattle.answers.specs.Limits.{max_frame, max_ports}
+use Rattle.answers.specs.Answers.{is_done}
+use Rattle.flows.specs.Flows.{flow_count, InRange}
 use Rattle.tables.proofs.Places.{size_of}
 use Rattle.plan_text.specs.declared.reading.Plan.{Plan}
-use Rattle.plan_text.specs.Reading.{frameIn, portsIn, listIn}
-use Rattle.plan_text.specs.Lines.{answerLine}
-use Rattle.plan_text.specs.Plans.{Put, plan_of, planIfDone}
+use Rattle.plan_text.specs.Reading.{frame_in, ports_in, list_in}
+use Rattle.plan_text.specs.Lines.{answer_line}
+use Rattle.plan_text.specs.Plans.{Put, plan_of, plan_if_done}
 use Rattle.plan_text.proofs.Putting.{put_then, put_as}
-use Rattle.planner.specs.Responding.{respondAnswer, Responded}
-use Rattle.planner.specs.Printing.{rowRoom, outLines, answerTo, Printed}
-use Rattle.planner.proofs.TextRead.{respond-done}
+use Rattle.planner.specs.Responding.{respond_answer, Responded}
+use Rattle.planner.specs.Printing.{row_room, out_lines, answer_to, Printed}
+use Rattle.planner.proofs.TextRead.{respond_done}
 
-module _ (text out empty T : List ℕ) (room : length empty ≡ maxPorts * maxFrame) (same : length T ≡ length empty) (r : Plan)
+module _ (text out empty T : List ℕ) (room : length empty ≡ max_ports * max_frame) (same : length T ≡ length empty) (r : Plan)
     (responded : Responded text empty T r)
   where
-    plan-is : r ≡ planIfDone (answerTo text) (frameIn text) (portsIn text) (flowCount (listIn text))
-    plan-is =
-        responded.handed-back
-        ∙ ap (λ (n : ℕ). planIfDone (respondAnswer text n) (frameIn text) (portsIn text) (flowCount (listIn text))) room
+    plan_is : r ≡ plan_if_done (answer_to text) (frame_in text) (ports_in text) (flow_count (list_in text))
+    plan_is =
+        responded.handed_back
+        ∙ ap (λ (n : ℕ). plan_if_done (respond_answer text n) (frame_in text) (ports_in text) (flow_count (list_in text))) room
 
-    answer-is : r.answer ≡ answerTo text
-    answer-is = ap (λ (x : Plan). x.answer) plan-is
+    answer_is : r.answer ≡ answer_to text
+    answer_is = ap (λ (x : Plan). x.answer) plan_is
 
     -- the answer's line is that of the text's answer
-    line : {after : List ℕ} {n : ℕ} → Put out 0 (answerLine r.answer.number r.answer.detail) after n
-        → Put out 0 (answerLine (answerTo text).number (answerTo text).detail) after n
-    line p = put_as p (ap (λ (a : Answer). answerLine a.number a.detail) answer-is)
+    line : {after : List ℕ} {n : ℕ} → Put out 0 (answer_line r.answer.number r.answer.detail) after n
+        → Put out 0 (answer_line (answer_to text).number (answer_to text).detail) after n
+    line p = put_as p (ap (λ (a : Answer). answer_line a.number a.detail) answer_is)
 
-    pub refusal-printed : {after : List ℕ} {n : ℕ} → (r.answer.number ≡ DONE → ⊥)
-        → Put out 0 (answerLine r.answer.number r.answer.detail) after n → Printed text out after n
-    refusal-printed h p =
+    pub refusal_printed : {after : List ℕ} {n : ℕ} → (r.answer.number ≡ DONE → ⊥)
+        → Put out 0 (answer_line r.answer.number r.answer.detail) after n → Printed text out after n
+    refusal_printed h p =
         record {
           table = T;
-          whole = λ z. absurd (h (ap (λ (a : Answer). a.number) answer-is ∙ z));
-          accepted = λ z. absurd (h (ap (λ (a : Answer). a.number) answer-is ∙ z));
+          whole = λ z. absurd (h (ap (λ (a : Answer). a.number) answer_is ∙ z));
+          accepted = λ z. absurd (h (ap (λ (a : Answer). a.number) answer_is ∙ z));
           put =
               put_as (line p)
-              (sym (append-nil _) ∙ sym (ap (λ (b : Bool). first ++ cond b (outLines (frameIn text) (portsIn text) T (portsIn text)) []) refused));
+              (sym (append-nil _) ∙ sym (ap (λ (b : Bool). first ++ cond b (out_lines (frame_in text) (ports_in text) T (ports_in text)) []) refused));
         }
       where
         first : List ℕ
-        first = answerLine (answerTo text).number (answerTo text).detail
+        first = answer_line (answer_to text).number (answer_to text).detail
 
-        refused : isDone (answerTo text) ≡ false
-        refused = ne_eqb _ _ (λ z. h (ap (λ (a : Answer). a.number) answer-is ∙ z))
+        refused : is_done (answer_to text) ≡ false
+        refused = ne_eqb _ _ (λ z. h (ap (λ (a : Answer). a.number) answer_is ∙ z))
 
     module _ (d : r.answer.number ≡ DONE) where
-      done : (answerTo text).number ≡ DONE
-      done = sym (ap (λ (a : Answer). a.number) answer-is) ∙ d
+      done : (answer_to text).number ≡ DONE
+      done = sym (ap (λ (a : Answer). a.number) answer_is) ∙ d
 
-      text-plan : r ≡ plan_of (answerTo text) (frameIn text) (portsIn text) (flowCount (listIn text))
-      text-plan =
-          plan-is
-          ∙ ap (λ (b : Bool). plan_of (answerTo text) (cond b (frameIn text) 0) (cond b (portsIn text) 0) (cond b (flowCount (listIn text)) 0)) (eq-eqb _ _ done)
+      text_plan : r ≡ plan_of (answer_to text) (frame_in text) (ports_in text) (flow_count (list_in text))
+      text_plan =
+          plan_is
+          ∙ ap (λ (b : Bool). plan_of (answer_to text) (cond b (frame_in text) 0) (cond b (ports_in text) 0) (cond b (flow_count (list_in text)) 0)) (eq-eqb _ _ done)
 
-      in-range : InRange (frameIn text) (portsIn text) (listIn text)
-      in-range = respond-done text (maxPorts * maxFrame) done
+      in_range : InRange (frame_in text) (ports_in text) (list_in text)
+      in_range = respond_done text (max_ports * max_frame) done
 
-      pub frame-short : r.frame ≤ maxFrame
-      frame-short = omega (arith, ap (λ (x : Plan). x.frame) text-plan, in-range.frame-in-range.at_most)
+      pub frame_short : r.frame ≤ max_frame
+      frame_short = omega (arith, ap (λ (x : Plan). x.frame) text_plan, in_range.frame_in_range.at_most)
 
-      pub lines_fit : r.ports * rowRoom ≤ maxPorts * rowRoom
-      lines_fit = mul-le-mul_right {m = r.ports} {n = maxPorts} rowRoom
-          (omega (arith, ap (λ (x : Plan). x.ports) text-plan, in-range.ports-in-range.at_most))
+      pub lines_fit : r.ports * row_room ≤ max_ports * row_room
+      lines_fit = mul-le-mul_right {m = r.ports} {n = max_ports} row_room
+          (omega (arith, ap (λ (x : Plan). x.ports) text_plan, in_range.ports_in_range.at_most))
 
-      pub table-printed : {mid after : List ℕ} {next n : ℕ} → Put out 0 (answerLine r.answer.number r.answer.detail) mid next
-          → Put mid next (outLines r.frame r.ports T r.ports) after n → Printed text out after n
-      table-printed p q =
+      pub table_printed : {mid after : List ℕ} {next n : ℕ} → Put out 0 (answer_line r.answer.number r.answer.detail) mid next
+          → Put mid next (out_lines r.frame r.ports T r.ports) after n → Printed text out after n
+      table_printed p q =
           record {
             table = T;
-            whole = λ z. omega (arith, room, same, size_of in-range.frame-in-range in-range.ports-in-range);
+            whole = λ z. omega (arith, room, same, size_of in_range.frame_in_range in_range.ports_in_range);
             accepted = λ z. responded.accepted d;
             put =
                 put_as (put_then (line p) q)
-                ((λ i. first ++ outLines (text-plan i).frame (text-plan i).ports T (text-plan i).ports)
-                ∙ sym (ap (λ (b : Bool). first ++ cond b (outLines (frameIn text) (portsIn text) T (portsIn text)) []) (eq-eqb _ _ done)));
+                ((λ i. first ++ out_lines (text_plan i).frame (text_plan i).ports T (text_plan i).ports)
+                ∙ sym (ap (λ (b : Bool). first ++ cond b (out_lines (frame_in text) (ports_in text) T (ports_in text)) []) (eq-eqb _ _ done)));
           }
         where
           first : List ℕ
-          first = answerLine (answerTo text).number (answerTo text).detail
+          first = answer_line (answer_to text).number (answer_to text).detail
 
 -- what was printed lies in the buffer
-pub printed-within : {text before after : List ℕ} {n : ℕ} → Printed text before after n → n ≤ length after
-printed-within {text} {before} {after} {n} p = omega (arith, p.put.next-is, ap length p.put.front, length-take n after)
+pub printed_within : {text before after : List ℕ} {n : ℕ} → Printed text before after n → n ≤ length after
+printed_within {text} {before} {after} {n} p = omega (arith, p.put.next_is, ap length p.put.front, length-take n after)

@@ -1,8 +1,8 @@
 // The whole output of the planner, composed in one buffer.
 ghost use Rattle.std.specs.Prelude.{◌+◌, ◌*◌, ◌≤◌, length};
-ghost use Rattle.answers.specs.Limits.{maxFrame};
+ghost use Rattle.answers.specs.Limits.{max_frame};
 ghost use Rattle.plan_text.specs.Plans.{Put};
-ghost use Rattle.planner.specs.Printing.{rowRoom, outLines, Printed};
+ghost use Rattle.planner.specs.Printing.{row_room, out_lines, Printed};
 
 use crate::respond::respond;
 use answers::{DONE, MAX_FRAME, MAX_PORTS};
@@ -18,9 +18,9 @@ pub const OUTPUT_ROOM: usize = ANSWER_ROOM + MAX_PORTS * ROW_ROOM;
 
 // Puts a line for each output; hands back the place after them.
 fn put_rows(out: &mut [u8], at: usize, frame: usize, ports: usize, table: &[u8]) -> usize
-    requires short { frame ≤ maxFrame }
-    requires room { at + ports * rowRoom ≤ length out.old }
-    ensures { Put out.old at (outLines frame ports table.now ports) out.new result }
+    requires short { frame ≤ max_frame }
+    requires room { at + ports * row_room ≤ length out.old }
+    ensures { Put out.old at (out_lines frame ports table.now ports) out.new result }
 {
     let mut next = at;
     let mut passed = 0;

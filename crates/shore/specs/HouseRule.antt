@@ -1,32 +1,32 @@
 -- What one cycle is held to, whichever messages are ready in it: that of a call, and each cycle of a run.
 use Rattle.std.specs.Prelude.{ℕ, ◌+◌, ◌≤◌, ◌<◌, ◌≡◌, ◌↔◌, Bool, true, false, cond, ◌&&◌}
 use Rattle.answers.specs.Sums.{sum}
-use Rattle.shore.specs.Cycle.{Network, links, messages, windowOf, size_of, setOf, hasLink, taken, load_of}
+use Rattle.shore.specs.Cycle.{Network, links, messages, window_of, size_of, set_of, has_link, taken, load_of}
 
 -- "the sizes taken so far" on link l, before message i
-abbrev pub takenSoFar : Network → (ℕ → Bool) → ℕ → ℕ → ℕ
-takenSoFar w ready i l = sum i (λ j. cond (taken w ready j && hasLink w j l) (size_of w j) 0)
+abbrev pub taken_so_far : Network → (ℕ → Bool) → ℕ → ℕ → ℕ
+taken_so_far w ready i l = sum i (λ j. cond (taken w ready j && has_link w j l) (size_of w j) 0)
 
 -- the load that a call tells of a link is the sum of the sizes of the messages taken on it
 abbrev pub LoadIsSum : Type 0
-LoadIsSum = (w : Network) (ready : ℕ → Bool) (l : ℕ) → load_of w ready l ≡ takenSoFar w ready (messages w) l
+LoadIsSum = (w : Network) (ready : ℕ → Bool) (l : ℕ) → load_of w ready l ≡ taken_so_far w ready (messages w) l
 
 -- no link's load is above its window
 abbrev pub LoadWithinWindow : Type 0
-LoadWithinWindow = (w : Network) (ready : ℕ → Bool) (l : ℕ) → l < links w → load_of w ready l ≤ windowOf w l
+LoadWithinWindow = (w : Network) (ready : ℕ → Bool) (l : ℕ) → l < links w → load_of w ready l ≤ window_of w l
 
 -- "ready messages are taken in order; one is taken exactly if on each of its links the sizes taken so far plus its own are at most that link's window"
 abbrev pub TakenExactly : Type 0
 TakenExactly =
     (w : Network) (ready : ℕ → Bool) (i : ℕ)
     → (taken w ready i ≡ true)
-    ↔ ((ready i ≡ true) × ((l : ℕ) → l < links w → hasLink w i l ≡ true → takenSoFar w ready i l + size_of w i ≤ windowOf w l))
+    ↔ ((ready i ≡ true) × ((l : ℕ) → l < links w → has_link w i l ≡ true → taken_so_far w ready i l + size_of w i ≤ window_of w l))
 
 -- two networks that have the same windows, and the same messages down to i
 pub record SameDownTo (i : ℕ) (w w' : Network) : Type 0 where
-  pub same-windows : w.windows ≡ w'.windows
-  pub same-sizes : (j : ℕ) → j ≤ i → size_of w j ≡ size_of w' j
-  pub same-sets : (j : ℕ) → j ≤ i → setOf w j ≡ setOf w' j
+  pub same_windows : w.windows ≡ w'.windows
+  pub same_sizes : (j : ℕ) → j ≤ i → size_of w j ≡ size_of w' j
+  pub same_sets : (j : ℕ) → j ≤ i → set_of w j ≡ set_of w' j
 
 -- a message's being taken does not depend on messages of lower priority: they may be others, be more or fewer, and be ready or not
 abbrev pub LowerDoNotCount : Type 0
@@ -38,16 +38,16 @@ LowerDoNotCount =
 pub record TakenAhead (w : Network) (ready : ℕ → Bool) (i j l : ℕ) : Type 0 where
   pub higher : j < i
   pub there : l < links w
-  pub ahead-has-link : hasLink w j l ≡ true
-  pub held-has-link : hasLink w i l ≡ true
-  pub was-taken : taken w ready j ≡ true
+  pub ahead_has_link : has_link w j l ≡ true
+  pub held_has_link : has_link w i l ≡ true
+  pub was_taken : taken w ready j ≡ true
 
 -- "a size above a window on its path": message i alone is too much for one of its links
 pub record AboveWindow (w : Network) (i : ℕ) : Type 0 where
   pub link : ℕ
   pub there : link < links w
-  pub has-link : hasLink w i link ≡ true
-  pub above : windowOf w link < size_of w i
+  pub has_link : has_link w i link ≡ true
+  pub above : window_of w link < size_of w i
 
 -- a ready message that is held has a taken message of higher priority on one of its links, unless its size is above a window on its path
 abbrev pub HeldByHigher : Type 0

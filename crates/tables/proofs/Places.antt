@@ -5,18 +5,18 @@ use native.Mathlib.Omega.{arith}
 use lib.ListN.{length}
 use lib.Arith.{digits_lt}
 use native.Mathlib.Nat.{mul-le-mul}
-use Rattle.answers.specs.Limits.{maxFrame, maxPorts, Within}
+use Rattle.answers.specs.Limits.{max_frame, max_ports, Within}
 use Rattle.tables.specs.Check.{Holds}
 
-pub place-within : {M N : ℕ} {T : List ℕ} → Holds M N T → (r s : ℕ) → r < N → s < M → r * M + s < length T
-place-within {M} {N} {T} h r s lr ls = omega (arith, digits_lt {q = r} {m = N} {r = s} {c = M} lr ls, h.long-enough)
+pub place_within : {M N : ℕ} {T : List ℕ} → Holds M N T → (r s : ℕ) → r < N → s < M → r * M + s < length T
+place_within {M} {N} {T} h r s lr ls = omega (arith, digits_lt {q = r} {m = N} {r = s} {c = M} lr ls, h.long_enough)
 
 -- frame and ports in range bound the table's size
-pub size_of : {M N : ℕ} → Within 1 maxFrame M → Within 1 maxPorts N → N * M ≤ maxPorts * maxFrame
+pub size_of : {M N : ℕ} → Within 1 max_frame M → Within 1 max_ports N → N * M ≤ max_ports * max_frame
 size_of m n = mul-le-mul n.at_most m.at_most
 
-pub size-bound : {M N : ℕ} {T : List ℕ} → Holds M N T → N * M ≤ maxPorts * maxFrame
-size-bound h = size_of h.frame-in-range h.ports-in-range
+pub size_bound : {M N : ℕ} {T : List ℕ} → Holds M N T → N * M ≤ max_ports * max_frame
+size_bound h = size_of h.frame_in_range h.ports_in_range
 
-pub place-bound : {M N : ℕ} {T : List ℕ} → Holds M N T → (r s : ℕ) → r < N → s < M → r * M + s < maxPorts * maxFrame
-place-bound {M} {N} {T} h r s lr ls = omega (arith, digits_lt {q = r} {m = N} {r = s} {c = M} lr ls, size-bound h)
+pub place_bound : {M N : ℕ} {T : List ℕ} → Holds M N T → (r s : ℕ) → r < N → s < M → r * M + s < max_ports * max_frame
+place_bound {M} {N} {T} h r s lr ls = omega (arith, digits_lt {q = r} {m = N} {r = s} {c = M} lr ls, size_bound h)

@@ -1,10 +1,10 @@
 // The check: a table is accepted for a list exactly where this answers done.
 ghost use Rattle.std.specs.Prelude.{◌≡◌, ◌+◌, ◌*◌, ◌<◌, ◌≤◌, length};
-ghost use Rattle.answers.specs.Limits.{maxPorts, maxFrame, maxFlows};
-ghost use Rattle.answers.specs.Lowest.{lowest, holdsSomewhere};
-ghost use Rattle.flows.specs.Flows.{flowCount};
+ghost use Rattle.answers.specs.Limits.{max_ports, max_frame, max_flows};
+ghost use Rattle.answers.specs.Lowest.{lowest, holds_somewhere};
+ghost use Rattle.flows.specs.Flows.{flow_count};
 ghost use Rattle.tables.specs.Accepted.{entry};
-ghost use Rattle.tables.specs.Check.{noFlowOf, notOfRow, shareInput, inputTwice, countWrong, checkAnswer, entriesAnswer, Holds, Counted};
+ghost use Rattle.tables.specs.Check.{no_flow_of, not_of_row, share_input, input_twice, count_wrong, check_answer, entries_answer, Holds, Counted};
 
 use answers::{Answer, COUNT_WRONG, DONE, ENTRY_NOT_OF_ROW, INPUT_TWICE_IN_SLOT, TABLE_TOO_SHORT};
 
@@ -18,7 +18,7 @@ pub fn entry_at(frame: usize, table: &[u8], row: usize, slot: usize) -> usize
 
 // Whether an entry is not the number of a flow for that output.
 fn no_flow_of(list: &[u16], output: usize, number: usize) -> bool
-    ensures { result ≡ noFlowOf list.now output number }
+    ensures { result ≡ no_flow_of list.now output number }
 {
     if answers::outside(1, flows::flow_count(list), number) {
         return true;
@@ -29,7 +29,7 @@ fn no_flow_of(list: &[u16], output: usize, number: usize) -> bool
 // Refusal 8 at one place.
 fn not_of_row(frame: usize, list: &[u16], table: &[u8], place: usize) -> bool
     requires { (0 < frame) × (place < length table.now) }
-    ensures { result ≡ notOfRow frame list.now table.now place }
+    ensures { result ≡ not_of_row frame list.now table.now place }
 {
     let number = table[place] as usize;
     if number == 0 {
@@ -41,7 +41,7 @@ fn not_of_row(frame: usize, list: &[u16], table: &[u8], place: usize) -> bool
 // The lowest place that refusal 8 names, or the end.
 fn first_not_of_row(frame: usize, list: &[u16], table: &[u8], end: usize) -> usize
     requires { (0 < frame) × (end ≤ length table.now) }
-    ensures { result ≡ lowest 0 end (notOfRow frame list.now table.now) }
+    ensures { result ≡ lowest 0 end (not_of_row frame list.now table.now) }
 {
     let mut place = 0;
     while place < end {
@@ -56,7 +56,7 @@ fn first_not_of_row(frame: usize, list: &[u16], table: &[u8], end: usize) -> usi
 // Whether two rows hold flows of one input at a slot.
 fn share_input(frame: usize, list: &[u16], table: &[u8], slot: usize, a: usize, b: usize) -> bool
     requires { (a * frame + slot < length table.now) × (b * frame + slot < length table.now) }
-    ensures { result ≡ shareInput frame list.now table.now slot a b }
+    ensures { result ≡ share_input frame list.now table.now slot a b }
 {
     let first = entry_at(frame, table, a, slot);
     if first == 0 {
@@ -79,7 +79,7 @@ fn meets_earlier(
     row: usize,
 ) -> bool
     requires { Holds frame ports table.now × (slot < frame) × (row < ports) }
-    ensures { result ≡ holdsSomewhere 0 row (λ a. shareInput frame list.now table.now slot a row) }
+    ensures { result ≡ holds_somewhere 0 row (λ a. share_input frame list.now table.now slot a row) }
 {
     let mut earlier = 0;
     while earlier < row {
@@ -94,7 +94,7 @@ fn meets_earlier(
 // Refusal 9 at one slot.
 fn input_twice(frame: usize, ports: usize, list: &[u16], table: &[u8], slot: usize) -> bool
     requires { Holds frame ports table.now × (slot < frame) }
-    ensures { result ≡ inputTwice frame ports list.now table.now slot }
+    ensures { result ≡ input_twice frame ports list.now table.now slot }
 {
     let mut row = 0;
     while row < ports {
@@ -109,7 +109,7 @@ fn input_twice(frame: usize, ports: usize, list: &[u16], table: &[u8], slot: usi
 // The lowest slot that refusal 9 names, or the frame.
 fn first_input_twice(frame: usize, ports: usize, list: &[u16], table: &[u8]) -> usize
     requires { Holds frame ports table.now }
-    ensures { result ≡ lowest 0 frame (inputTwice frame ports list.now table.now) }
+    ensures { result ≡ lowest 0 frame (input_twice frame ports list.now table.now) }
 {
     let mut slot = 0;
     while slot < frame {
@@ -123,7 +123,7 @@ fn first_input_twice(frame: usize, ports: usize, list: &[u16], table: &[u8]) -> 
 
 // How many times each number stands among the first places of a table, in one pass.
 fn count_entries(table: &[u8], end: usize) -> [u32; 256]
-    requires { (end ≤ length table.now) × (end ≤ maxPorts * maxFrame) }
+    requires { (end ≤ length table.now) × (end ≤ max_ports * max_frame) }
     ensures { Counted table.now end result }
 {
     let mut counts = [0u32; 256];
@@ -138,8 +138,8 @@ fn count_entries(table: &[u8], end: usize) -> [u32; 256]
 
 // The lowest flow that refusal 10 names, or one past the last flow.
 fn first_count_wrong(frame: usize, ports: usize, list: &[u16], table: &[u8]) -> usize
-    requires { Holds frame ports table.now × (flowCount list.now ≤ maxFlows) }
-    ensures { result ≡ lowest 1 (flowCount list.now) (countWrong frame ports list.now table.now) }
+    requires { Holds frame ports table.now × (flow_count list.now ≤ max_flows) }
+    ensures { result ≡ lowest 1 (flow_count list.now) (count_wrong frame ports list.now table.now) }
 {
     let counts = count_entries(table, ports * frame);
     let last = flows::flow_count(list);
@@ -156,8 +156,8 @@ fn first_count_wrong(frame: usize, ports: usize, list: &[u16], table: &[u8]) -> 
 
 // Refusals 8, 9 and 10 of a table that is long enough, or done.
 fn entries_answer(frame: usize, ports: usize, list: &[u16], table: &[u8]) -> Answer
-    requires { Holds frame ports table.now × (flowCount list.now ≤ maxFlows) }
-    ensures { result ≡ entriesAnswer frame ports list.now table.now }
+    requires { Holds frame ports table.now × (flow_count list.now ≤ max_flows) }
+    ensures { result ≡ entries_answer frame ports list.now table.now }
 {
     let place = first_not_of_row(frame, list, table, ports * frame);
     if place < ports * frame {
@@ -176,7 +176,7 @@ fn entries_answer(frame: usize, ports: usize, list: &[u16], table: &[u8]) -> Ans
 
 // Whether a table is accepted for a list, and if not, why.
 pub fn check(frame: usize, ports: usize, list: &[u16], table: &[u8]) -> Answer
-    ensures { result ≡ checkAnswer frame ports list.now table.now }
+    ensures { result ≡ check_answer frame ports list.now table.now }
 {
     let listed = flows::list_answer(frame, ports, list);
     if listed.number != DONE {

@@ -1,12 +1,12 @@
 // An output's row, as a part of the table that was lent: never a copy.
 ghost use Rattle.std.specs.Prelude.{◌≡◌, ◌+◌, length};
-ghost use Rattle.tables.specs.Row.{rowAnswer, rowStart, rowPart};
+ghost use Rattle.tables.specs.Row.{row_answer, row_start, row_part};
 
 use answers::{Answer, DONE, OUTPUT_OUT_OF_RANGE, TABLE_TOO_SHORT};
 
 // What is answered for an output's row: done exactly where its part is not empty.
 pub fn row_answer(frame: usize, ports: usize, table: &[u8], output: usize) -> Answer
-    ensures { result ≡ rowAnswer frame ports (length table.now) output }
+    ensures { result ≡ row_answer frame ports (length table.now) output }
 {
     let sized = answers::size_answer(frame, ports);
     if sized.number != DONE {
@@ -23,9 +23,9 @@ pub fn row_answer(frame: usize, ports: usize, table: &[u8], output: usize) -> An
 
 // The row of an output: its part of the lent table, or the empty part at the table's start.
 pub fn row(frame: usize, ports: usize, table: &[u8], output: usize) -> &[u8]
-    ensures bytes { result.now ≡ rowPart frame ports table.now output }
+    ensures bytes { result.now ≡ row_part frame ports table.now output }
     ensures block { result.ref_ptr.0 ≡ table.entry.ref_ptr.0 }
-    ensures place { result.ref_ptr.1 ≡ table.entry.ref_ptr.1 + rowStart frame ports (length table.now) output }
+    ensures place { result.ref_ptr.1 ≡ table.entry.ref_ptr.1 + row_start frame ports (length table.now) output }
 {
     let found = row_answer(frame, ports, table, output);
     if found.number != DONE {

@@ -8,66 +8,66 @@ use lib.Signed.{mag}
 use lib.IntN.{pos}
 use Rattle.answers.specs.declared.Answer.{Answer}
 use Rattle.answers.specs.Numbers.{DONE}
-use Rattle.answers.specs.Limits.{maxDepth, maxNodes, maxTime, outside}
-use Rattle.answers.specs.Answers.{doneWith}
-use Rattle.answers.proofs.First.{NoneHolds, first-none, lacked}
-use Rattle.answers.proofs.Ranges.{inside, within-test, either-false}
-use Rattle.trd.specs.Trd.{trdOf, TrdAsked, trdOutOfRange, trdRules, trdAnswer, TrdGiven, TrdIsLeast}
+use Rattle.answers.specs.Limits.{max_depth, max_nodes, max_time, outside}
+use Rattle.answers.specs.Answers.{done_with}
+use Rattle.answers.proofs.First.{NoneHolds, first_none, lacked}
+use Rattle.answers.proofs.Ranges.{inside, within_test, either_false}
+use Rattle.trd.specs.Trd.{trd_of, TrdAsked, trd_out_of_range, trd_rules, trd_answer, TrdGiven, TrdIsLeast}
 
 module _ (depth nodes sig tm sld : ℕ) where
-  pub in-range : trdOutOfRange depth nodes sig tm sld ≡ false → TrdAsked depth nodes sig tm sld
-  in-range e =
-      let a = either-false (outside 1 maxDepth depth) _ e in
-      let b = either-false (outside 1 maxNodes nodes) _ a.1 in
-      let d = either-false (outside 0 maxTime sig) _ b.1 in
-      let f = either-false (outside 0 maxTime tm) (outside 0 maxTime sld) d.1 in
+  pub in_range : trd_out_of_range depth nodes sig tm sld ≡ false → TrdAsked depth nodes sig tm sld
+  in_range e =
+      let a = either_false (outside 1 max_depth depth) _ e in
+      let b = either_false (outside 1 max_nodes nodes) _ a.1 in
+      let d = either_false (outside 0 max_time sig) _ b.1 in
+      let f = either_false (outside 0 max_time tm) (outside 0 max_time sld) d.1 in
       record {
-        depth-in-range = inside a.0;
-        nodes-in-range = inside b.0;
-        sig-in-range = inside d.0;
-        tm-in-range = inside f.0;
-        sld-in-range = inside f.1;
+        depth_in_range = inside a.0;
+        nodes_in_range = inside b.0;
+        sig_in_range = inside d.0;
+        tm_in_range = inside f.0;
+        sld_in_range = inside f.1;
       }
 
-  range-in : TrdAsked depth nodes sig tm sld → trdOutOfRange depth nodes sig tm sld ≡ false
-  range-in r =
-      let depth_is = within-test r.depth-in-range in
-      let nodes-is = within-test r.nodes-in-range in
-      let sig-is = within-test r.sig-in-range in
-      let tm-is = within-test r.tm-in-range in
-      let sld-is = within-test r.sld-in-range in
-      λ k. depth_is k || (nodes-is k || (sig-is k || (tm-is k || sld-is k)))
+  range_in : TrdAsked depth nodes sig tm sld → trd_out_of_range depth nodes sig tm sld ≡ false
+  range_in r =
+      let depth_is = within_test r.depth_in_range in
+      let nodes_is = within_test r.nodes_in_range in
+      let sig_is = within_test r.sig_in_range in
+      let tm_is = within_test r.tm_in_range in
+      let sld_is = within_test r.sld_in_range in
+      λ k. depth_is k || (nodes_is k || (sig_is k || (tm_is k || sld_is k)))
 
   module _ (r : TrdAsked depth nodes sig tm sld) where
-    pub trigger-part : (depth - 1) * (tm + sld) ≤ maxDepth * (maxTime + maxTime)
-    trigger-part = mul-le-mul {n₁ = depth - 1} {m₁ = tm + sld} {n₂ = maxDepth} {m₂ = maxTime + maxTime} (omega arith) (omega arith)
+    pub trigger_part : (depth - 1) * (tm + sld) ≤ max_depth * (max_time + max_time)
+    trigger_part = mul-le-mul {n₁ = depth - 1} {m₁ = tm + sld} {n₂ = max_depth} {m₂ = max_time + max_time} (omega arith) (omega arith)
 
-    pub nodes-part : nodes * sig ≤ maxNodes * maxTime
-    nodes-part = mul-le-mul {n₁ = nodes} {m₁ = sig} {n₂ = maxNodes} {m₂ = maxTime} (omega arith) (omega arith)
+    pub nodes_part : nodes * sig ≤ max_nodes * max_time
+    nodes_part = mul-le-mul {n₁ = nodes} {m₁ = sig} {n₂ = max_nodes} {m₂ = max_time} (omega arith) (omega arith)
 
-    pub signal-part : depth * (sig + sld) ≤ maxDepth * (maxTime + maxTime)
-    signal-part = mul-le-mul {n₁ = depth} {m₁ = sig + sld} {n₂ = maxDepth} {m₂ = maxTime + maxTime} (omega arith) (omega arith)
+    pub signal_part : depth * (sig + sld) ≤ max_depth * (max_time + max_time)
+    signal_part = mul-le-mul {n₁ = depth} {m₁ = sig + sld} {n₂ = max_depth} {m₂ = max_time + max_time} (omega arith) (omega arith)
 
-    pub all-parts : (depth - 1) * (tm + sld) + nodes * sig + depth * (sig + sld)
-        ≤ maxDepth * (maxTime + maxTime) + maxNodes * maxTime + maxDepth * (maxTime + maxTime)
-    all-parts = omega (arith, trigger-part, nodes-part, signal-part)
+    pub all_parts : (depth - 1) * (tm + sld) + nodes * sig + depth * (sig + sld)
+        ≤ max_depth * (max_time + max_time) + max_nodes * max_time + max_depth * (max_time + max_time)
+    all_parts = omega (arith, trigger_part, nodes_part, signal_part)
 
-  done-asked : {n : ℕ} → trdAnswer depth nodes sig tm sld ≡ doneWith (pos n) → NoneHolds (trdRules depth nodes sig tm sld)
-  unfolding trdAnswer
-  done-asked e = (lacked DONE (trdRules depth nodes sig tm sld) _ tt (ap (λ (a : Answer). a.number) e)).0
+  done_asked : {n : ℕ} → trd_answer depth nodes sig tm sld ≡ done_with (pos n) → NoneHolds (trd_rules depth nodes sig tm sld)
+  unfolding trd_answer
+  done_asked e = (lacked DONE (trd_rules depth nodes sig tm sld) _ tt (ap (λ (a : Answer). a.number) e)).0
 
-  given : NoneHolds (trdRules depth nodes sig tm sld) → trdAnswer depth nodes sig tm sld ≡ doneWith (pos (trdOf depth nodes sig tm sld))
-  unfolding trdAnswer
-  given h = first-none (trdRules depth nodes sig tm sld) _ h
+  given : NoneHolds (trd_rules depth nodes sig tm sld) → trd_answer depth nodes sig tm sld ≡ done_with (pos (trd_of depth nodes sig tm sld))
+  unfolding trd_answer
+  given h = first_none (trd_rules depth nodes sig tm sld) _ h
 
-pub trd-given : TrdGiven
-trd-given depth nodes sig tm sld = (
-  λ e. in-range depth nodes sig tm sld (done-asked depth nodes sig tm sld e).0,
-  λ r. given depth nodes sig tm sld (range-in depth nodes sig tm sld r, tt),
+pub trd_given : TrdGiven
+trd_given depth nodes sig tm sld = (
+  λ e. in_range depth nodes sig tm sld (done_asked depth nodes sig tm sld e).0,
+  λ r. given depth nodes sig tm sld (range_in depth nodes sig tm sld r, tt),
 )
 
-pub trd-is-least : TrdIsLeast
-trd-is-least depth nodes sig tm sld trd x e =
-    let answered = given depth nodes sig tm sld (done-asked depth nodes sig tm sld e) in
-    let same : trdOf depth nodes sig tm sld ≡ trd = ap (λ (a : Answer). mag a.detail) (sym answered ∙ e) in
+pub trd_is_least : TrdIsLeast
+trd_is_least depth nodes sig tm sld trd x e =
+    let answered = given depth nodes sig tm sld (done_asked depth nodes sig tm sld e) in
+    let same : trd_of depth nodes sig tm sld ≡ trd = ap (λ (a : Answer). mag a.detail) (sym answered ∙ e) in
     (λ l. omega (arith, same), λ l. omega (arith, same))

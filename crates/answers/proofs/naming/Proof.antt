@@ -8,11 +8,11 @@ use Rattle.answers.specs.Answers.{answer}
 use Rattle.answers.proofs.naming.Statement.{statement}
 use Rattle.answers.proofs.naming.Tie as tie
 
-cast-t3 : tie.Need-overflow-cast-t3
-cast-t3 c = search rules
+cast_t3 : tie.Need-overflow-cast-t3
+cast_t3 c = search rules
 
 returns : tie.Need-returns
 returns c = ap (λ (d : ℤ). answer c.args.number d) (to_z_pos w32 c.args.detail c.requires)
 
-pub naming-spec : {M : Type 1} → statement M
-naming-spec = tie.close (tie.spec cast-t3 returns)
+pub naming_spec : {M : Type 1} → statement M
+naming_spec = tie.close (tie.spec cast_t3 returns)

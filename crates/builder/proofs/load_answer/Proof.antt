@@ -2,78 +2,78 @@
 use mathlib.Core.Path.{◌∙◌}
 use native.Mathlib.Omega.{arith}
 use native.Mathlib.Nat.{mul-le-mul}
-use Rattle.builder.proofs.Outcome.{input-refused, output-refused, length-refused, loads-done}
+use Rattle.builder.proofs.Outcome.{input_refused, output_refused, length_refused, loads_done}
 use borrow.Author.Rules.{rules}
 use Rattle.builder.proofs.load_answer.Statement.{statement}
 use Rattle.builder.proofs.load_answer.Tie as tie
 
-first-overloaded-input-requires : tie.Need-first-overloaded-input-requires
-first-overloaded-input-requires c κs = search rules
+first_overloaded_input_requires : tie.Need-first-overloaded-input-requires
+first_overloaded_input_requires c κs = search rules
 
-naming-requires : tie.Need-naming-requires
-naming-requires c κs = search rules
+naming_requires : tie.Need-naming-requires
+naming_requires c κs = search rules
 
 returns : tie.Need-returns
 returns c =
     let f = c.before.before in
     let a = f.before.before.args in
     c.naming.ensures
-    ∙ input-refused a.frame a.ports a.list.now a.length _ f.first-overloaded-input.ensures c.before.if1.true
+    ∙ input_refused a.frame a.ports a.list.now a.length _ f.first-overloaded-input.ensures c.before.if1.true
 
-first-overloaded-output-requires : tie.Need-first-overloaded-output-requires
-first-overloaded-output-requires c κs = search rules
+first_overloaded_output_requires : tie.Need-first-overloaded-output-requires
+first_overloaded_output_requires c κs = search rules
 
-naming-requires-2 : tie.Need-naming-requires-2
-naming-requires-2 c κs = search rules
+naming_requires_2 : tie.Need-naming-requires-2
+naming_requires_2 c κs = search rules
 
-returns-2 : tie.Need-returns-2
-returns-2 c =
+returns_2 : tie.Need-returns-2
+returns_2 c =
     let g = c.before.before in
     let f = g.before.before in
     let a = f.before.before.args in
     c.naming2.ensures
-    ∙ output-refused a.frame a.ports a.list.now a.length _ f.first-overloaded-input.ensures g.before.if1.false
+    ∙ output_refused a.frame a.ports a.list.now a.length _ f.first-overloaded-input.ensures g.before.if1.false
     _ g.first-overloaded-output.ensures c.before.if2.true
 
-mul-if3 : tie.Need-overflow-mul-if3
-mul-if3 c = let b = c.before.before.before.before.before in omega (arith, mul-le-mul b.requires.0 b.requires.1)
+mul_if3 : tie.Need-overflow-mul-if3
+mul_if3 c = let b = c.before.before.before.before.before in omega (arith, mul-le-mul b.requires.0 b.requires.1)
 
-refusal-requires : tie.Need-refusal-requires
-refusal-requires c κs = search rules
+refusal_requires : tie.Need-refusal-requires
+refusal_requires c κs = search rules
 
-returns-3 : tie.Need-returns-3
-returns-3 c =
+returns_3 : tie.Need-returns-3
+returns_3 c =
     let g = c.before.before.before in
     let f = g.before.before in
     let a = f.before.before.args in
     c.refusal.ensures
-    ∙ length-refused a.frame a.ports a.list.now a.length _ f.first-overloaded-input.ensures g.before.if1.false
+    ∙ length_refused a.frame a.ports a.list.now a.length _ f.first-overloaded-input.ensures g.before.if1.false
     _ g.first-overloaded-output.ensures c.before.before.if2.false c.before.if3.true
 
-done-requires : tie.Need-done-requires
-done-requires c κs = search rules
+done_requires : tie.Need-done-requires
+done_requires c κs = search rules
 
-returns-4 : tie.Need-returns-4
-returns-4 c =
+returns_4 : tie.Need-returns-4
+returns_4 c =
     let g = c.before.before.before in
     let f = g.before.before in
     let a = f.before.before.args in
     c.done.ensures
-    ∙ loads-done a.frame a.ports a.list.now a.length _ f.first-overloaded-input.ensures g.before.if1.false
+    ∙ loads_done a.frame a.ports a.list.now a.length _ f.first-overloaded-input.ensures g.before.if1.false
     _ g.first-overloaded-output.ensures c.before.before.if2.false c.before.if3.false
 
-pub load-answer-spec : {M : Type 1} → statement M
-load-answer-spec =
+pub load_answer_spec : {M : Type 1} → statement M
+load_answer_spec =
     tie.close
     (tie.spec
-    first-overloaded-input-requires
-    naming-requires
+    first_overloaded_input_requires
+    naming_requires
     returns
-    first-overloaded-output-requires
-    naming-requires-2
-    returns-2
-    mul-if3
-    refusal-requires
-    returns-3
-    done-requires
-    returns-4)
+    first_overloaded_output_requires
+    naming_requires_2
+    returns_2
+    mul_if3
+    refusal_requires
+    returns_3
+    done_requires
+    returns_4)

@@ -6,8 +6,8 @@ use Rattle.cycles.proofs.buffer_short.Tie as tie
 returns : tie.Need-returns
 returns c = simp (lt-ltb _ _ c.if1.true)
 
-returns-2 : tie.Need-returns-2
-returns-2 c = simp (le-ltb _ _ c.if1.false)
+returns_2 : tie.Need-returns-2
+returns_2 c = simp (le-ltb _ _ c.if1.false)
 
-pub buffer-short-spec : {M : Type 1} → statement M
-buffer-short-spec = tie.close (tie.spec returns returns-2)
+pub buffer_short_spec : {M : Type 1} → statement M
+buffer_short_spec = tie.close (tie.spec returns returns_2)

@@ -1,38 +1,38 @@
 -- `cycles::cycle` meets its contract: that the answer is done says what taking the messages asks.
 use native.Mathlib.Omega.{arith}
 use Rattle.shore.specs.Cycle.{network}
-use Rattle.cycles.proofs.Outcomes.{cycle-sized, cycle-refused, cycled}
+use Rattle.cycles.proofs.Outcomes.{cycle_sized, cycle_refused, cycled}
 use borrow.Author.Rules.{rules}
 use Rattle.cycles.proofs.cycle.Statement.{statement}
 use Rattle.cycles.proofs.cycle.Tie as tie
 
-cycle-answer-requires : tie.Need-cycle-answer-requires
-cycle-answer-requires c κs = search rules
+cycle_answer_requires : tie.Need-cycle-answer-requires
+cycle_answer_requires c κs = search rules
 
 returns : tie.Need-returns
 returns c =
     let b = c.before.before in
     let a = b.before.before.before.before.before.before.before.args in
     let w = network a.windows.now a.sizes.now a.sets.now in
-    cycle-refused w a.ready.now a.taken.now a.loads.now b.cycle-answer.ensures c.if1.true
+    cycle_refused w a.ready.now a.taken.now a.loads.now b.cycle-answer.ensures c.if1.true
 
-take-ready-requires : tie.Need-take-ready-requires
-take-ready-requires c κs =
+take_ready_requires : tie.Need-take-ready-requires
+take_ready_requires c κs =
     let b = c.before.before.before.before in
     let a = b.before.before.before.before.before.before.before.args in
     let w = network a.windows.now a.sizes.now a.sets.now in
-    let s = cycle-sized w a.ready.now a.taken.now a.loads.now b.cycle-answer.ensures c.before.before.if1.false in
-    let lists = s.0.network-sized in
-    (lists.few-links, (lists.as-many-sets, (omega (arith, s.0.as-many-ready), (s.1.0, s.1.1))))
+    let s = cycle_sized w a.ready.now a.taken.now a.loads.now b.cycle-answer.ensures c.before.before.if1.false in
+    let lists = s.0.network_sized in
+    (lists.few_links, (lists.as_many_sets, (omega (arith, s.0.as_many_ready), (s.1.0, s.1.1))))
 
 same_length : tie.Need-same-length
 same_length c = search rules
 
-same-length-2 : tie.Need-same-length-2
-same-length-2 c = search rules
+same_length_2 : tie.Need-same-length-2
+same_length_2 c = search rules
 
-returns-2 : tie.Need-returns-2
-returns-2 c =
+returns_2 : tie.Need-returns-2
+returns_2 c =
     let took = c.before.before.before.before in
     let taken = took.take-ready in
     let b = took.before.before.before.before.before in
@@ -41,13 +41,13 @@ returns-2 c =
     cycled w a.ready.now a.taken.now a.loads.now b.cycle-answer.ensures
     taken.new.1.1.1.1.0 taken.new.1.1.1.1.1.0 took.before.before.before.if1.false taken.ensures.0 taken.ensures.1
 
-pub cycle-spec : {M : Type 1} → statement M
-cycle-spec =
+pub cycle_spec : {M : Type 1} → statement M
+cycle_spec =
     tie.close
     (tie.spec
-    cycle-answer-requires
+    cycle_answer_requires
     returns
-    take-ready-requires
+    take_ready_requires
     same_length
-    same-length-2
-    returns-2)
+    same_length_2
+    returns_2)

@@ -2,27 +2,27 @@
 use Prim.Native.Nat.{ℕ}
 use mathlib.Core.Path.{sym, ap, ◌∙◌}
 use borrow.Author.Rules.{rules}
-use Rattle.flows.specs.Flows.{flowOutOfRange}
-use Rattle.answers.proofs.Orders.{or-true, or-false}
+use Rattle.flows.specs.Flows.{flow_out_of_range}
+use Rattle.answers.proofs.Orders.{or_true, or_false}
 use Rattle.flows.proofs.flow_out_of_range.Statement.{statement}
 use Rattle.flows.proofs.flow_out_of_range.Tie as tie
 
-input-of-requires : tie.Need-input-of-requires
-input-of-requires c κs = search rules
+input_of_requires : tie.Need-input-of-requires
+input_of_requires c κs = search rules
 
-outside-requires : tie.Need-outside-requires
-outside-requires c κs = search rules
+outside_requires : tie.Need-outside-requires
+outside_requires c κs = search rules
 
 returns : tie.Need-returns
-returns c = rw (flowOutOfRange, ← c.before.before.Input-of.ensures, ← c.before.outside.ensures, c.if1.true)
+returns c = rw (flow_out_of_range, ← c.before.before.Input-of.ensures, ← c.before.outside.ensures, c.if1.true)
 
-outputs-out-of-range-requires : tie.Need-outputs-out-of-range-requires
-outputs-out-of-range-requires c κs = search rules
+outputs_out_of_range_requires : tie.Need-outputs-out-of-range-requires
+outputs_out_of_range_requires c κs = search rules
 
-returns-2 : tie.Need-returns-2
-returns-2 c =
+returns_2 : tie.Need-returns-2
+returns_2 c =
     rw (
-      flowOutOfRange,
+      flow_out_of_range,
       ← c.before.before.before.before.Input-of.ensures,
       ← c.before.before.before.outside.ensures,
       c.before.before.if1.false,
@@ -30,16 +30,16 @@ returns-2 c =
       c.if2.true,
     )
 
-cells-of-requires : tie.Need-cells-of-requires
-cells-of-requires c κs = search rules
+cells_of_requires : tie.Need-cells-of-requires
+cells_of_requires c κs = search rules
 
-outside-requires-2 : tie.Need-outside-requires-2
-outside-requires-2 c κs = search rules
+outside_requires_2 : tie.Need-outside-requires-2
+outside_requires_2 c κs = search rules
 
-returns-3 : tie.Need-returns-3
-returns-3 c =
+returns_3 : tie.Need-returns-3
+returns_3 c =
     rw (
-      flowOutOfRange,
+      flow_out_of_range,
       ← c.before.before.before.before.before.before.Input-of.ensures,
       ← c.before.before.before.before.before.outside.ensures,
       c.before.before.before.before.if1.false,
@@ -49,15 +49,15 @@ returns-3 c =
     )
     c.outside2.ensures
 
-pub flow-out-of-range-spec : {M : Type 1} → statement M
-flow-out-of-range-spec =
+pub flow_out_of_range_spec : {M : Type 1} → statement M
+flow_out_of_range_spec =
     tie.close
     (tie.spec
-    input-of-requires
-    outside-requires
+    input_of_requires
+    outside_requires
     returns
-    outputs-out-of-range-requires
-    returns-2
-    cells-of-requires
-    outside-requires-2
-    returns-3)
+    outputs_out_of_range_requires
+    returns_2
+    cells_of_requires
+    outside_requires_2
+    returns_3)

@@ -3,11 +3,11 @@ use borrow.Author.Rules.{rules}
 use Rattle.flows.proofs.goes_to.Statement.{statement}
 use Rattle.flows.proofs.goes_to.Tie as tie
 
-output-of-requires : tie.Need-output-of-requires
-output-of-requires c κs = search rules
+output_of_requires : tie.Need-output-of-requires
+output_of_requires c κs = search rules
 
 returns : tie.Need-returns
 returns c = rw c.output-of.ensures
 
-pub goes-to-spec : {M : Type 1} → statement M
-goes-to-spec = tie.close (tie.spec output-of-requires returns)
+pub goes_to_spec : {M : Type 1} → statement M
+goes_to_spec = tie.close (tie.spec output_of_requires returns)

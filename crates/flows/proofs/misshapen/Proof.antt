@@ -7,11 +7,11 @@ use Rattle.flows.proofs.misshapen.Tie as tie
 returns : tie.Need-returns
 returns c = simp (ne_eqb _ _ c.if1.true)
 
-mul-result : tie.Need-overflow-mul-result
-mul-result c = search rules
+mul_result : tie.Need-overflow-mul-result
+mul_result c = search rules
 
-returns-2 : tie.Need-returns-2
-returns-2 c = simp (eq-eqb _ _ c.if1.false)
+returns_2 : tie.Need-returns-2
+returns_2 c = simp (eq-eqb _ _ c.if1.false)
 
-pub misshapen-spec : {M : Type 1} → statement M
-misshapen-spec = tie.close (tie.spec returns mul-result returns-2)
+pub misshapen_spec : {M : Type 1} → statement M
+misshapen_spec = tie.close (tie.spec returns mul_result returns_2)

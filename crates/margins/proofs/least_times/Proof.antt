@@ -1,6 +1,6 @@
 -- `margins::least_times` meets its contract.
-use Rattle.margins.proofs.Times.{least-by-division, least-of-none}
-use Rattle.margins.specs.Margins.{leastTimes}
+use Rattle.margins.proofs.Times.{least_by_division, least_of_none}
+use Rattle.margins.specs.Margins.{least_times}
 use native.Mathlib.Nat.{div-le_self}
 use native.Mathlib.Omega.{arith}
 use mathlib.Core.Path.{sym, ap, ◌∙◌}
@@ -10,19 +10,19 @@ use Rattle.margins.proofs.least_times.Statement.{statement}
 use Rattle.margins.proofs.least_times.Tie as tie
 
 returns : tie.Need-returns
-returns c = least-of-none c.before.args.d ∙ ap (λ (n : ℕ). leastTimes c.before.args.d n) (sym c.if1.true)
+returns c = least_of_none c.before.args.d ∙ ap (λ (n : ℕ). least_times c.before.args.d n) (sym c.if1.true)
 
-sub-result : tie.Need-overflow-sub-result
-sub-result c = search rules
+sub_result : tie.Need-overflow-sub-result
+sub_result c = search rules
 
-div-result : tie.Need-nonzero-div-result
-div-result c = search rules
+div_result : tie.Need-nonzero-div-result
+div_result c = search rules
 
-add-result : tie.Need-overflow-add-result
-add-result c = omega (arith, div-le_self (c.before.args.n - 1) c.before.args.d)
+add_result : tie.Need-overflow-add-result
+add_result c = omega (arith, div-le_self (c.before.args.n - 1) c.before.args.d)
 
-returns-2 : tie.Need-returns-2
-returns-2 c = least-by-division c.before.args.d c.before.args.n c.before.requires (omega (arith, c.if1.false))
+returns_2 : tie.Need-returns-2
+returns_2 c = least_by_division c.before.args.d c.before.args.n c.before.requires (omega (arith, c.if1.false))
 
-pub least-times-spec : {M : Type 1} → statement M
-least-times-spec = tie.close (tie.spec returns sub-result div-result add-result returns-2)
+pub least_times_spec : {M : Type 1} → statement M
+least_times_spec = tie.close (tie.spec returns sub_result div_result add_result returns_2)

@@ -8,14 +8,14 @@ use borrow.Author.Rules.{rules}
 use Rattle.margins.proofs.less.Statement.{statement}
 use Rattle.margins.proofs.less.Tie as tie
 
-cast-result : tie.Need-overflow-cast-result
-cast-result c = search rules
+cast_result : tie.Need-overflow-cast-result
+cast_result c = search rules
 
-cast-result-2 : tie.Need-overflow-cast-result-2
-cast-result-2 c = search rules
+cast_result_2 : tie.Need-overflow-cast-result-2
+cast_result_2 c = search rules
 
-sub-result : tie.Need-overflow-sub-result
-sub-result c =
+sub_result : tie.Need-overflow-sub-result
+sub_result c =
     rw (to_z_pos w32 c.args.a (omega arith), to_z_pos w32 c.args.b (omega arith))
     (record { sfits = omega (arith, mag_less c.args.a c.args.b) })
 
@@ -24,5 +24,5 @@ returns c =
     rw (to_z_pos w32 c.args.a (omega arith), to_z_pos w32 c.args.b (omega arith))
     (to_z-of_z w32 (pos c.args.a -ℤ pos c.args.b) (record { sfits = omega (arith, mag_less c.args.a c.args.b) }))
 
-pub less-spec : {M : Type 1} → statement M
-less-spec = tie.close (tie.spec cast-result cast-result-2 sub-result returns)
+pub less_spec : {M : Type 1} → statement M
+less_spec = tie.close (tie.spec cast_result cast_result_2 sub_result returns)

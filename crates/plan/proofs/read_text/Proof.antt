@@ -14,34 +14,34 @@ use Rattle.plan.proofs.read_text.Tie as tie
 part_length : (text : List ℕ) (count : ℕ) → length (mid_of count (length text - count) text) ≡ length text - count
 part_length text count = omega (arith, length-take (length text - count) (drop count text), length-drop count text)
 
-abbrev invariant-loop : tie.invariant-loop
-invariant-loop text₀ count₀ text count = (count ≤ length text) × (length text ≡ length text₀)
+abbrev invariant_loop : tie.invariant_loop
+invariant_loop text₀ count₀ text count = (count ≤ length text) × (length text ≡ length text₀)
 
-abbrev decreases-loop : tie.decreases-loop
-decreases-loop text₀ count₀ text count = length text - count
+abbrev decreases_loop : tie.decreases_loop
+decreases_loop text₀ count₀ text count = length text - count
 
-loop-holds : tie.Need-loop-init invariant-loop decreases-loop
-loop-holds c = (omega arith, refl)
+loop_holds : tie.Need-loop-init invariant_loop decreases_loop
+loop_holds c = (omega arith, refl)
 
-sub-read-some : tie.Need-overflow-sub-read-some invariant-loop decreases-loop
-sub-read-some c = omega arith
+sub_read_some : tie.Need-overflow-sub-read-some invariant_loop decreases_loop
+sub_read_some c = omega arith
 
-part-read-some-start : tie.Need-slice-bounds-read-some-start invariant-loop decreases-loop
-part-read-some-start c = search rules
+part_read_some_start : tie.Need-slice-bounds-read-some-start invariant_loop decreases_loop
+part_read_some_start c = search rules
 
-part-read-some-end : tie.Need-slice-bounds-read-some-end invariant-loop decreases-loop
-part-read-some-end c = search rules
+part_read_some_end : tie.Need-slice-bounds-read-some-end invariant_loop decreases_loop
+part_read_some_end c = search rules
 
-read-some-requires : tie.Need-read-some-requires invariant-loop decreases-loop
-read-some-requires c κs = tt
+read_some_requires : tie.Need-read-some-requires invariant_loop decreases_loop
+read_some_requires c κs = tt
 
-same_length : tie.Need-same-length invariant-loop decreases-loop
+same_length : tie.Need-same-length invariant_loop decreases_loop
 same_length c =
     let read = c.before.before.before.before in
     let loop = read.before.before.before.loop in
     same_len_mid loop.count (length loop.text - loop.count) loop.text read.read_Some.new.0 read.read_Some.auto.0 ∙ loop.invariant.1
 
-returns : tie.Need-returns invariant-loop decreases-loop
+returns : tie.Need-returns invariant_loop decreases_loop
 returns c =
     let read = c.before.before.before.before in
     let loop = read.before.before.before.loop in
@@ -50,8 +50,8 @@ returns c =
     let within : loop.count ≤ length text = omega (arith, same, loop.invariant.0) in
     (within, sym (length-take-le loop.count text within))
 
-add-count : tie.Need-overflow-add-count invariant-loop decreases-loop
-add-count c =
+add_count : tie.Need-overflow-add-count invariant_loop decreases_loop
+add_count c =
     let read = c.before.before.before.before.before in
     let loop = read.before.before.before.loop in
     omega (
@@ -63,8 +63,8 @@ add-count c =
       c.before.before.before.before.before.before.before.before.before.before.well-formed.0.0,
     )
 
-loop-less : tie.Need-loop-smaller invariant-loop decreases-loop
-loop-less c =
+loop_less : tie.Need-loop-smaller invariant_loop decreases_loop
+loop_less c =
     let read = c.before.before.before.before.before in
     let loop = read.before.before.before.loop in
     omega (
@@ -74,8 +74,8 @@ loop-less c =
       read.before.before.loop-test.true,
     )
 
-loop-again : tie.Need-loop-preserved invariant-loop decreases-loop
-loop-again c =
+loop_again : tie.Need-loop-preserved invariant_loop decreases_loop
+loop_again c =
     let read = c.before.before.before.before.before in
     let loop = read.before.before.before.loop in
     let same = same_len_mid loop.count (length loop.text - loop.count) loop.text read.read_Some.new.0 read.read_Some.auto.0 in (
@@ -83,29 +83,29 @@ loop-again c =
       same ∙ loop.invariant.1,
     )
 
-same-length-2 : tie.Need-same-length-2 invariant-loop decreases-loop
-same-length-2 c = c.before.loop.invariant.1
+same_length_2 : tie.Need-same-length-2 invariant_loop decreases_loop
+same_length_2 c = c.before.loop.invariant.1
 
-returns-2 : tie.Need-returns-2 invariant-loop decreases-loop
-returns-2 c =
+returns_2 : tie.Need-returns-2 invariant_loop decreases_loop
+returns_2 c =
     let loop = c.before.loop in
     (loop.invariant.0, sym (length-take-le loop.count loop.text loop.invariant.0))
 
-pub read-text-spec : {M : Type 1} → statement M
-read-text-spec =
+pub read_text_spec : {M : Type 1} → statement M
+read_text_spec =
     tie.close
     (tie.spec
-    invariant-loop
-    decreases-loop
-    loop-holds
-    sub-read-some
-    part-read-some-start
-    part-read-some-end
-    read-some-requires
+    invariant_loop
+    decreases_loop
+    loop_holds
+    sub_read_some
+    part_read_some_start
+    part_read_some_end
+    read_some_requires
     same_length
     returns
-    add-count
-    loop-less
-    loop-again
-    same-length-2
-    returns-2)
+    add_count
+    loop_less
+    loop_again
+    same_length_2
+    returns_2)

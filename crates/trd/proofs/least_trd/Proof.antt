@@ -3,56 +3,56 @@ use native.Mathlib.Omega.{arith}
 use Prim.Native.Nat.{ℕ, ◌+◌}
 use mathlib.Core.Path.{sym, ◌∙◌, ap}
 use lib.IntN.{pos}
-use Rattle.answers.specs.Answers.{doneWith}
-use Rattle.trd.specs.Trd.{trdAnswer}
-use Rattle.trd.proofs.Equation.{in-range, all-parts}
+use Rattle.answers.specs.Answers.{done_with}
+use Rattle.trd.specs.Trd.{trd_answer}
+use Rattle.trd.proofs.Equation.{in_range, all_parts}
 use borrow.Author.Rules.{rules}
 use Rattle.trd.proofs.least_trd.Statement.{statement}
 use Rattle.trd.proofs.least_trd.Tie as tie
 
-trd-out-of-range-requires : tie.Need-trd-out-of-range-requires
-trd-out-of-range-requires c κs = search rules
+trd_out_of_range_requires : tie.Need-trd-out-of-range-requires
+trd_out_of_range_requires c κs = search rules
 
-refusal-requires : tie.Need-refusal-requires
-refusal-requires c κs = search rules
+refusal_requires : tie.Need-refusal-requires
+refusal_requires c κs = search rules
 
 returns : tie.Need-returns
-unfolding trdAnswer
-returns c = rw (trdAnswer, ← c.before.before.trd-out-of-range.ensures, c.before.if1.true) c.refusal.ensures
+unfolding trd_answer
+returns c = rw (trd_answer, ← c.before.before.trd-out-of-range.ensures, c.before.if1.true) c.refusal.ensures
 
-right-side-requires : tie.Need-right-side-requires
-right-side-requires c κs =
+right_side_requires : tie.Need-right-side-requires
+right_side_requires c κs =
     let a = c.before.before.args in
-    in-range a.depth a.nodes a.sig a.tm a.sld (sym c.before.trd-out-of-range.ensures ∙ c.if1.false)
+    in_range a.depth a.nodes a.sig a.tm a.sld (sym c.before.trd-out-of-range.ensures ∙ c.if1.false)
 
-add-naming : tie.Need-overflow-add-naming
-add-naming c =
+add_naming : tie.Need-overflow-add-naming
+add_naming c =
     let b = c.before.before in
     let a = b.before.args in
-    let asked = in-range a.depth a.nodes a.sig a.tm a.sld (sym b.trd-out-of-range.ensures ∙ c.before.if1.false) in
-    omega (arith, c.right_side.ensures, all-parts a.depth a.nodes a.sig a.tm a.sld asked)
+    let asked = in_range a.depth a.nodes a.sig a.tm a.sld (sym b.trd-out-of-range.ensures ∙ c.before.if1.false) in
+    omega (arith, c.right_side.ensures, all_parts a.depth a.nodes a.sig a.tm a.sld asked)
 
-naming-requires : tie.Need-naming-requires
-naming-requires c κs =
+naming_requires : tie.Need-naming-requires
+naming_requires c κs =
     let b = c.before.before in
     let a = b.before.args in
-    let asked = in-range a.depth a.nodes a.sig a.tm a.sld (sym b.trd-out-of-range.ensures ∙ c.before.if1.false) in
-    omega (arith, c.right_side.ensures, all-parts a.depth a.nodes a.sig a.tm a.sld asked)
+    let asked = in_range a.depth a.nodes a.sig a.tm a.sld (sym b.trd-out-of-range.ensures ∙ c.before.if1.false) in
+    omega (arith, c.right_side.ensures, all_parts a.depth a.nodes a.sig a.tm a.sld asked)
 
-returns-2 : tie.Need-returns-2
-unfolding trdAnswer
-returns-2 c =
-    rw (trdAnswer, ← c.before.before.before.trd-out-of-range.ensures, c.before.before.if1.false)
-    (c.naming.ensures ∙ ap (λ (n : ℕ). doneWith (pos (n + 1))) c.before.right_side.ensures)
+returns_2 : tie.Need-returns-2
+unfolding trd_answer
+returns_2 c =
+    rw (trd_answer, ← c.before.before.before.trd-out-of-range.ensures, c.before.before.if1.false)
+    (c.naming.ensures ∙ ap (λ (n : ℕ). done_with (pos (n + 1))) c.before.right_side.ensures)
 
-pub least-trd-spec : {M : Type 1} → statement M
-least-trd-spec =
+pub least_trd_spec : {M : Type 1} → statement M
+least_trd_spec =
     tie.close
     (tie.spec
-    trd-out-of-range-requires
-    refusal-requires
+    trd_out_of_range_requires
+    refusal_requires
     returns
-    right-side-requires
-    add-naming
-    naming-requires
-    returns-2)
+    right_side_requires
+    add_naming
+    naming_requires
+    returns_2)

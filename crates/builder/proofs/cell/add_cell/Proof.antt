@@ -3,68 +3,68 @@ use Prim.Native.Nat.{ℕ, ◌-◌}
 use mathlib.Core.Path.{refl, sym, ◌∙◌, subst}
 use native.Mathlib.Omega.{arith}
 use lib.ListN.{length-set}
-use Rattle.answers.specs.Limits.{maxPorts, Within}
+use Rattle.answers.specs.Limits.{max_ports, Within}
 use Rattle.builder.proofs.Places.{holds_same, row_within}
-use Rattle.builder.proofs.Placing.{no-mark}
-use Rattle.builder.proofs.Remarking.{marked-again}
-use Rattle.builder.proofs.Adding.{added-by-run, added-elsewhere, row-full, input-full}
+use Rattle.builder.proofs.Placing.{no_mark}
+use Rattle.builder.proofs.Remarking.{marked_again}
+use Rattle.builder.proofs.Adding.{added_by_run, added_elsewhere, row_full, input_full}
 use borrow.Author.Rules.{rules}
 use Rattle.builder.proofs.cell.add_cell.Statement.{statement}
 use Rattle.builder.proofs.cell.add_cell.Tie as tie
 
-output-of-requires : tie.Need-output-of-requires
-output-of-requires c κs = search rules
+output_of_requires : tie.Need-output-of-requires
+output_of_requires c κs = search rules
 
 sub_row : tie.Need-overflow-sub-row
 sub_row c =
     let b = c.before.before.before.before in
     omega (arith, c.output-of.ensures, (b.requires.0.ports.outputs b.args.flow b.requires.0.flow).at_least)
 
-free-of-row-requires : tie.Need-free-of-row-requires
-free-of-row-requires c κs =
+free_of_row_requires : tie.Need-free-of-row-requires
+free_of_row_requires c κs =
     let b = c.before.before.before.before.before in
     let o = b.requires.0.ports.outputs b.args.flow b.requires.0.flow in
     row_within b.requires.0.table (c.before.output-of.result - 1) (omega (arith, c.before.output-of.ensures, o.at_least, o.at_most))
 
-input-of-requires : tie.Need-input-of-requires
-input-of-requires c κs = search rules
+input_of_requires : tie.Need-input-of-requires
+input_of_requires c κs = search rules
 
-free-of-input-requires : tie.Need-free-of-input-requires
-free-of-input-requires c κs =
+free_of_input_requires : tie.Need-free-of-input-requires
+free_of_input_requires c κs =
     let b = c.before.before.before.before.before.before.before.before.before in
     let w = b.requires.0.ports.inputs b.args.flow b.requires.0.flow in
     (b.requires.1, subst (λ (i : ℕ). Within 1 b.args.ports i) (sym c.Input-of.ensures) w)
 
-output-side-requires : tie.Need-output-side-requires
-output-side-requires c κs =
+output_side_requires : tie.Need-output-side-requires
+output_side_requires c κs =
     let q = c.before.before.before in
     let o = q.before.before.before.before.before.before in
     let b = o.before.before.before.before in
     let w = b.requires.0.ports.outputs b.args.flow b.requires.0.flow in (
       record {
         table = b.requires.0.table;
-        first-in = omega (arith, c.before.before.if1.true, c.before.if2.true);
-        second-in = omega (arith, c.before.before.if1.true, c.before.if2.true);
+        first_in = omega (arith, c.before.before.if1.true, c.before.if2.true);
+        second_in = omega (arith, c.before.before.if1.true, c.before.if2.true);
       },
       record {
         row_in = omega (arith, o.output-of.ensures, w.at_least, w.at_most);
-        not_seen = no-mark maxPorts (o.output-of.result - 1);
+        not_seen = no_mark max_ports (o.output-of.result - 1);
       },
     )
 
-cast-table : tie.Need-overflow-cast-table
-cast-table c = search rules
+cast_table : tie.Need-overflow-cast-table
+cast_table c = search rules
 
-mul-table : tie.Need-overflow-mul-table
-mul-table c =
+mul_table : tie.Need-overflow-mul-table
+mul_table c =
     let q = c.before.before.before.before.before.before in
     let o = q.before.before.before.before.before.before in
     let b = o.before.before.before.before in
     let w = b.requires.0.ports.outputs b.args.flow b.requires.0.flow in
     omega (arith, row_within b.requires.0.table (o.output-of.result - 1) (omega (arith, o.output-of.ensures, w.at_least, w.at_most)))
 
-add-table : tie.Need-overflow-add-table
-add-table c =
+add_table : tie.Need-overflow-add-table
+add_table c =
     let t = c.before.before.before.before in
     let q = t.before.before in
     let o = q.before.before.before.before.before.before in
@@ -73,8 +73,8 @@ add-table c =
     let row = row_within b.requires.0.table (o.output-of.result - 1) (omega (arith, o.output-of.ensures, w.at_least, w.at_most)) in
     omega (arith, row, t.if2.true)
 
-slice-write-table : tie.Need-slice-write-table
-slice-write-table c =
+slice_write_table : tie.Need-slice-write-table
+slice_write_table c =
     let r = c.before.before in
     let t = r.before.before in
     let q = t.before.before in
@@ -84,16 +84,16 @@ slice-write-table c =
     let row = row_within b.requires.0.table (o.output-of.result - 1) (omega (arith, o.output-of.ensures, w.at_least, w.at_most)) in
     omega (arith, row, t.if2.true, r.output-side.auto.1.1.1.0)
 
-mark-slot-requires : tie.Need-mark-slot-requires
-mark-slot-requires c κs =
+mark_slot_requires : tie.Need-mark-slot-requires
+mark_slot_requires c κs =
     let r = c.before.before.before.before in
     let t = r.before.before.before in
     let o = t.before.before.before.before.before.before.before in
     let b = o.before.before.before.before in
     (holds_same _ b.requires.0.table (simp length-set r.output-side.auto.1.1.1.0), b.requires.1.room, t.if1.true)
 
-mark-slot-requires-2 : tie.Need-mark-slot-requires-2
-mark-slot-requires-2 c κs =
+mark_slot_requires_2 : tie.Need-mark-slot-requires-2
+mark_slot_requires_2 c κs =
     let m = c.before.before.before.before in
     let r = m.before.before.before.before.before in
     let t = r.before.before in
@@ -107,8 +107,8 @@ mark-slot-requires-2 c κs =
 same_length : tie.Need-same-length
 same_length c = search rules
 
-same-length-2 : tie.Need-same-length-2
-same-length-2 c = search rules
+same_length_2 : tie.Need-same-length-2
+same_length_2 c = search rules
 
 returns : tie.Need-returns
 returns c =
@@ -122,82 +122,82 @@ returns c =
     let o = f.before.before in
     let b = o.before.before.before.before in
     let a = b.args in
-    let first = f.free-of-row.result in
-    let second = q.free-of-input.result in
+    let first = f.free_of_row.result in
+    let second = q.free_of_input.result in
     let run = r.output-side.new.1.1.1.0 in (
-      added-by-run a.frame a.ports a.list.now a.flow a.table.now b.requires.0 o.output-of.result i.Input-of.result first second
-          o.output-of.ensures f.free-of-row.ensures i.Input-of.ensures q.free-of-input.ensures
+      added_by_run a.frame a.ports a.list.now a.flow a.table.now b.requires.0 o.output-of.result i.Input-of.result first second
+          o.output-of.ensures f.free_of_row.ensures i.Input-of.ensures q.free_of_input.ensures
           run _ t.before.if1.true t.if2.true r.output-side.ensures refl,
-      marked-again a.frame a.ports a.list.now a.table.now _ a.used.now
+      marked_again a.frame a.ports a.list.now a.table.now _ a.used.now
           m.mark-slot.new.1.1.1.1.0 n.mark-slot2.new.1.1.1.1.0 first second b.requires.1
-          (added-elsewhere a.frame a.ports a.list.now a.flow a.table.now b.requires.0 o.output-of.result i.Input-of.result first second
-          o.output-of.ensures f.free-of-row.ensures i.Input-of.ensures q.free-of-input.ensures
+          (added_elsewhere a.frame a.ports a.list.now a.flow a.table.now b.requires.0 o.output-of.result i.Input-of.result first second
+          o.output-of.ensures f.free_of_row.ensures i.Input-of.ensures q.free_of_input.ensures
           run _ t.before.if1.true t.if2.true r.output-side.ensures refl)
           m.mark-slot.ensures n.mark-slot2.ensures (n.mark-slot2.auto.1.1.1.1.0 ∙ m.mark-slot.auto.1.1.1.1.0),
     )
 
-same-length-3 : tie.Need-same-length-3
-same-length-3 c = search rules
+same_length_3 : tie.Need-same-length-3
+same_length_3 c = search rules
 
-same-length-4 : tie.Need-same-length-4
-same-length-4 c = search rules
+same_length_4 : tie.Need-same-length-4
+same_length_4 c = search rules
 
-returns-2 : tie.Need-returns-2
-returns-2 c =
+returns_2 : tie.Need-returns-2
+returns_2 c =
     let q = c.before.before in
     let i = q.before in
     let f = i.before.before.before in
     let o = f.before.before in
     let b = o.before.before.before.before in
     let a = b.args in (
-      input-full a.frame a.ports a.list.now a.flow a.table.now b.requires.0
-          o.output-of.result i.Input-of.result f.free-of-row.result q.free-of-input.result
-          o.output-of.ensures f.free-of-row.ensures i.Input-of.ensures q.free-of-input.ensures c.if2.false,
+      input_full a.frame a.ports a.list.now a.flow a.table.now b.requires.0
+          o.output-of.result i.Input-of.result f.free_of_row.result q.free_of_input.result
+          o.output-of.ensures f.free_of_row.ensures i.Input-of.ensures q.free_of_input.ensures c.if2.false,
       b.requires.1,
     )
 
-same-length-5 : tie.Need-same-length-5
-same-length-5 c = search rules
+same_length_5 : tie.Need-same-length-5
+same_length_5 c = search rules
 
-same-length-6 : tie.Need-same-length-6
-same-length-6 c = search rules
+same_length_6 : tie.Need-same-length-6
+same_length_6 c = search rules
 
-returns-3 : tie.Need-returns-3
-returns-3 c =
+returns_3 : tie.Need-returns-3
+returns_3 c =
     let q = c.before in
     let i = q.before in
     let f = i.before.before.before in
     let o = f.before.before in
     let b = o.before.before.before.before in
     let a = b.args in (
-      row-full a.frame a.ports a.list.now a.flow a.table.now b.requires.0
-          o.output-of.result i.Input-of.result f.free-of-row.result q.free-of-input.result
-          o.output-of.ensures f.free-of-row.ensures i.Input-of.ensures q.free-of-input.ensures c.if1.false,
+      row_full a.frame a.ports a.list.now a.flow a.table.now b.requires.0
+          o.output-of.result i.Input-of.result f.free_of_row.result q.free_of_input.result
+          o.output-of.ensures f.free_of_row.ensures i.Input-of.ensures q.free_of_input.ensures c.if1.false,
       b.requires.1,
     )
 
-pub add-cell-spec : {M : Type 1} → statement M
-add-cell-spec =
+pub add_cell_spec : {M : Type 1} → statement M
+add_cell_spec =
     tie.close
     (tie.spec
-    output-of-requires
+    output_of_requires
     sub_row
-    free-of-row-requires
-    input-of-requires
-    free-of-input-requires
-    output-side-requires
-    cast-table
-    mul-table
-    add-table
-    slice-write-table
-    mark-slot-requires
-    mark-slot-requires-2
+    free_of_row_requires
+    input_of_requires
+    free_of_input_requires
+    output_side_requires
+    cast_table
+    mul_table
+    add_table
+    slice_write_table
+    mark_slot_requires
+    mark_slot_requires_2
     same_length
-    same-length-2
+    same_length_2
     returns
-    same-length-3
-    same-length-4
-    returns-2
-    same-length-5
-    same-length-6
-    returns-3)
+    same_length_3
+    same_length_4
+    returns_2
+    same_length_5
+    same_length_6
+    returns_3)

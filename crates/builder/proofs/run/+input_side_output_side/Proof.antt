@@ -4,8 +4,8 @@ use mir.Facts.{Fits-widen}
 use mathlib.Core.Path.{refl, ◌∙◌}
 use Rattle.builder.proofs.Places.{holds_same, row_within}
 use Rattle.builder.specs.Exchange.{unseen}
-use Rattle.builder.proofs.Alternation.{unseen-mark}
-use Rattle.builder.proofs.Sides.{row_next, led_on, led-nowhere, run-followed, run-ended}
+use Rattle.builder.proofs.Alternation.{unseen_mark}
+use Rattle.builder.proofs.Sides.{row_next, led_on, led_nowhere, run_followed, run_ended}
 use Prim.Native.Nat.{ℕ, ◌+◌, ◌*◌, ◌<◌}
 use borrow.Fn.Kinds.{In}
 use borrow.Fn.PlainCycle.{Measures, is, falls, and}
@@ -21,192 +21,192 @@ use Rattle.flows.proofs.input_of.Reads as input-of-reads
 use Rattle.builder.proofs.run.+input_side_output_side.{statement}
 use Rattle.builder.proofs.run.+input_side_output_side.Tie.{close}
 
-abbrev μ-input-side : Measures 2 input-side-kinds.ps ℕ
-μ-input-side κs a = 2 * unseen a.1.0 a.1.1.1.1.1.1.1.0 + 1
+abbrev μ_input_side : Measures 2 input-side-kinds.ps ℕ
+μ_input_side κs a = 2 * unseen a.1.0 a.1.1.1.1.1.1.1.0 + 1
 
-abbrev μ-output-side : Measures 2 output-side-kinds.ps ℕ
-μ-output-side κs a = 2 * unseen a.1.0 a.1.1.1.1.1.1.1.0
+abbrev μ_output_side : Measures 2 output-side-kinds.ps ℕ
+μ_output_side κs a = 2 * unseen a.1.0 a.1.1.1.1.1.1.1.0
 
-abbrev input-side-at : ℕ → In 2 input-side-kinds.ps
-input-side-at t =
-    and 2 input-side-kinds.ps (is 2 input-side-kinds.ps μ-input-side t) input-side.Pre
+abbrev input_side_at : ℕ → In 2 input-side-kinds.ps
+input_side_at t =
+    and 2 input-side-kinds.ps (is 2 input-side-kinds.ps μ_input_side t) input-side.Pre
 
-abbrev input-side-below : ℕ → In 2 input-side-kinds.ps
-input-side-below t =
-    and 2 input-side-kinds.ps (falls 2 input-side-kinds.ps ◌<◌ μ-input-side t) input-side.Pre
+abbrev input_side_below : ℕ → In 2 input-side-kinds.ps
+input_side_below t =
+    and 2 input-side-kinds.ps (falls 2 input-side-kinds.ps ◌<◌ μ_input_side t) input-side.Pre
 
-abbrev output-side-at : ℕ → In 2 output-side-kinds.ps
-output-side-at t =
-    and 2 output-side-kinds.ps (is 2 output-side-kinds.ps μ-output-side t) output-side.Pre
+abbrev output_side_at : ℕ → In 2 output-side-kinds.ps
+output_side_at t =
+    and 2 output-side-kinds.ps (is 2 output-side-kinds.ps μ_output_side t) output-side.Pre
 
-abbrev output-side-below : ℕ → In 2 output-side-kinds.ps
-output-side-below t =
-    and 2 output-side-kinds.ps (falls 2 output-side-kinds.ps ◌<◌ μ-output-side t) output-side.Pre
+abbrev output_side_below : ℕ → In 2 output-side-kinds.ps
+output_side_below t =
+    and 2 output-side-kinds.ps (falls 2 output-side-kinds.ps ◌<◌ μ_output_side t) output-side.Pre
 
 -- what the calls of each side ask and tell
-abbrev input-side-calls : ℕ → input-side-lts.Claims
-input-side-calls t = (row-holding-reads.Asked, row-holding-reads.Learnt, output-side-below t, output-side.Post)
+abbrev input_side_calls : ℕ → input-side-lts.Claims
+input_side_calls t = (row-holding-reads.Asked, row-holding-reads.Learnt, output_side_below t, output-side.Post)
 
-abbrev output-side-calls : ℕ → output-side-lts.Claims
-output-side-calls t =
-    (swap-places-reads.Asked, swap-places-reads.Learnt, input-of-reads.Asked, input-of-reads.Learnt, input-side-below t, input-side.Post)
+abbrev output_side_calls : ℕ → output-side-lts.Claims
+output_side_calls t =
+    (swap-places-reads.Asked, swap-places-reads.Learnt, input-of-reads.Asked, input-of-reads.Learnt, input_side_below t, input-side.Post)
 
-input-side-row-holding-requires : (t : ℕ) → input-side-lts.Need-row-holding-requires (input-side-calls t) (input-side-at t) input-side.Post
-input-side-row-holding-requires t c κs =
+input_side_row_holding_requires : (t : ℕ) → input-side-lts.Need-row-holding-requires (input_side_calls t) (input_side_at t) input-side.Post
+input_side_row_holding_requires t c κs =
     let b = c.before.before.before in
     (b.requires.1.table, omega (arith, b.requires.1))
 
-input-side-output-side-requires : (t : ℕ) → input-side-lts.Need-output-side-requires (input-side-calls t) (input-side-at t) input-side.Post
-input-side-output-side-requires t c κs =
-    let at-row-holding = c.before.before in
-    let b = at-row-holding.before.before.before.before in
+input_side_output_side_requires : (t : ℕ) → input-side-lts.Need-output-side-requires (input_side_calls t) (input_side_at t) input-side.Post
+input_side_output_side_requires t c κs =
+    let at_row_holding = c.before.before in
+    let b = at_row_holding.before.before.before.before in
     let a = b.args in (
       omega (arith, b.requires.0),
       (
-        record { table = b.requires.1.table; first-in = omega (arith, b.requires.1); second-in = omega (arith, b.requires.1) },
+        record { table = b.requires.1.table; first_in = omega (arith, b.requires.1); second_in = omega (arith, b.requires.1) },
         row_next a.frame a.ports a.list.now a.first a.second a.marks
-            a.table.now a.input _ at-row-holding.row-holding.ensures c.before.if1.true,
+            a.table.now a.input _ at_row_holding.row-holding.ensures c.before.if1.true,
       ),
     )
 
-input-side-same-length : (t : ℕ) → input-side-lts.Need-same-length (input-side-calls t) (input-side-at t) input-side.Post
-input-side-same-length t c = c.before.before.output-side.auto.1.1.1.0
+input_side_same_length : (t : ℕ) → input-side-lts.Need-same-length (input_side_calls t) (input_side_at t) input-side.Post
+input_side_same_length t c = c.before.before.output-side.auto.1.1.1.0
 
-input-side-returns : (t : ℕ) → input-side-lts.Need-returns (input-side-calls t) (input-side-at t) input-side.Post
-input-side-returns t c =
-    let at-output-side = c.before.before in
-    let at-if1 = at-output-side.before.before in
-    let at-row-holding = at-if1.before in
-    let a = at-row-holding.before.before.before.before.args in
-    led_on a.frame a.ports a.list.now a.first a.second a.marks a.table.now a.input _ at-row-holding.row-holding.ensures
-    at-output-side.output-side.new.1.1.1.0 at-if1.if1.true at-output-side.output-side.ensures
+input_side_returns : (t : ℕ) → input-side-lts.Need-returns (input_side_calls t) (input_side_at t) input-side.Post
+input_side_returns t c =
+    let at_output_side = c.before.before in
+    let at_if1 = at_output_side.before.before in
+    let at_row_holding = at_if1.before in
+    let a = at_row_holding.before.before.before.before.args in
+    led_on a.frame a.ports a.list.now a.first a.second a.marks a.table.now a.input _ at_row_holding.row-holding.ensures
+    at_output_side.output-side.new.1.1.1.0 at_if1.if1.true at_output_side.output-side.ensures
 
-input-side-same-length-2 : (t : ℕ) → input-side-lts.Need-same-length-2 (input-side-calls t) (input-side-at t) input-side.Post
-input-side-same-length-2 t c = refl
+input_side_same_length_2 : (t : ℕ) → input-side-lts.Need-same-length-2 (input_side_calls t) (input_side_at t) input-side.Post
+input_side_same_length_2 t c = refl
 
-input-side-returns-2 : (t : ℕ) → input-side-lts.Need-returns-2 (input-side-calls t) (input-side-at t) input-side.Post
-input-side-returns-2 t c =
+input_side_returns_2 : (t : ℕ) → input-side-lts.Need-returns-2 (input_side_calls t) (input_side_at t) input-side.Post
+input_side_returns_2 t c =
     let a = c.before.before.before.before.before.args in
-    led-nowhere a.frame a.ports a.list.now a.first a.second a.marks
+    led_nowhere a.frame a.ports a.list.now a.first a.second a.marks
     a.table.now a.input _ c.before.row-holding.ensures c.if1.false
 
-output-side-mul-start : (t : ℕ) → output-side-lts.Need-overflow-mul-start (output-side-calls t) (output-side-at t) output-side.Post
-output-side-mul-start t c =
+output_side_mul_start : (t : ℕ) → output-side-lts.Need-overflow-mul-start (output_side_calls t) (output_side_at t) output-side.Post
+output_side_mul_start t c =
     let b = c.before.before in
     omega (arith, row_within b.requires.1.0.table b.args.row b.requires.1.1.row_in, b.requires.1.0)
 
-output-side-add-swap-places : (t : ℕ) → output-side-lts.Need-overflow-add-swap-places (output-side-calls t) (output-side-at t) output-side.Post
-output-side-add-swap-places t c =
+output_side_add_swap_places : (t : ℕ) → output-side-lts.Need-overflow-add-swap-places (output_side_calls t) (output_side_at t) output-side.Post
+output_side_add_swap_places t c =
     let b = c.before.before.before in
     omega (arith, row_within b.requires.1.0.table b.args.row b.requires.1.1.row_in, b.requires.1.0)
 
-output-side-add-swap-places-2 : (t : ℕ) → output-side-lts.Need-overflow-add-swap-places-2 (output-side-calls t) (output-side-at t) output-side.Post
-output-side-add-swap-places-2 t c =
+output_side_add_swap_places_2 : (t : ℕ) → output-side-lts.Need-overflow-add-swap-places-2 (output_side_calls t) (output_side_at t) output-side.Post
+output_side_add_swap_places_2 t c =
     let b = c.before.before.before in
     omega (arith, row_within b.requires.1.0.table b.args.row b.requires.1.1.row_in, b.requires.1.0)
 
-output-side-swap-places-requires : (t : ℕ) → output-side-lts.Need-swap-places-requires (output-side-calls t) (output-side-at t) output-side.Post
-output-side-swap-places-requires t c κs =
+output_side_swap_places_requires : (t : ℕ) → output-side-lts.Need-swap-places-requires (output_side_calls t) (output_side_at t) output-side.Post
+output_side_swap_places_requires t c κs =
     let b = c.before.before.before in
     omega (arith, row_within b.requires.1.0.table b.args.row b.requires.1.1.row_in, b.requires.1.0)
 
-output-side-add-input-of : (t : ℕ) → output-side-lts.Need-overflow-add-input-of (output-side-calls t) (output-side-at t) output-side.Post
-output-side-add-input-of t c =
+output_side_add_input_of : (t : ℕ) → output-side-lts.Need-overflow-add-input-of (output_side_calls t) (output_side_at t) output-side.Post
+output_side_add_input_of t c =
     let b = c.before.before.before.before.before.before in
     omega (arith, row_within b.requires.1.0.table b.args.row b.requires.1.1.row_in, b.requires.1.0)
 
-output-side-slice-read-input-of : (t : ℕ) → output-side-lts.Need-slice-read-input-of (output-side-calls t) (output-side-at t) output-side.Post
-output-side-slice-read-input-of t c =
+output_side_slice_read_input_of : (t : ℕ) → output-side-lts.Need-slice-read-input-of (output_side_calls t) (output_side_at t) output-side.Post
+output_side_slice_read_input_of t c =
     let b = c.before.before.before.before.before.before.before in
     omega (arith, row_within b.requires.1.0.table b.args.row b.requires.1.1.row_in, b.requires.1.0, c.before.before.before.swap_places.auto.0)
 
-output-side-cast-input-of : (t : ℕ) → output-side-lts.Need-overflow-cast-input-of (output-side-calls t) (output-side-at t) output-side.Post
-output-side-cast-input-of t c = Fits-widen tt (c.slice-known3.given _)
+output_side_cast_input_of : (t : ℕ) → output-side-lts.Need-overflow-cast-input-of (output_side_calls t) (output_side_at t) output-side.Post
+output_side_cast_input_of t c = Fits-widen tt (c.slice-known3.given _)
 
-output-side-input-of-requires : (t : ℕ) → output-side-lts.Need-input-of-requires (output-side-calls t) (output-side-at t) output-side.Post
-output-side-input-of-requires t c κs = tt
+output_side_input_of_requires : (t : ℕ) → output-side-lts.Need-input-of-requires (output_side_calls t) (output_side_at t) output-side.Post
+output_side_input_of_requires t c κs = tt
 
-output-side-array-write-seen : (t : ℕ) → output-side-lts.Need-array-write-seen (output-side-calls t) (output-side-at t) output-side.Post
-output-side-array-write-seen t c =
+output_side_array_write_seen : (t : ℕ) → output-side-lts.Need-array-write-seen (output_side_calls t) (output_side_at t) output-side.Post
+output_side_array_write_seen t c =
     let b = c.before.before.before.before.before.before.before.before.before in
-    omega (arith, b.requires.1.0.table.ports-in-range.at_most, b.requires.1.1.row_in)
+    omega (arith, b.requires.1.0.table.ports_in_range.at_most, b.requires.1.1.row_in)
 
-output-side-input-side-requires : (t : ℕ) → output-side-lts.Need-input-side-requires (output-side-calls t) (output-side-at t) output-side.Post
-output-side-input-side-requires t c κs =
-    let at-swap-places = c.before.before.before.before.before.before in
-    let b = at-swap-places.before.before.before.before in
+output_side_input_side_requires : (t : ℕ) → output-side-lts.Need-input-side-requires (output_side_calls t) (output_side_at t) output-side.Post
+output_side_input_side_requires t c κs =
+    let at_swap_places = c.before.before.before.before.before.before in
+    let b = at_swap_places.before.before.before.before in
     let h = b.requires.1.0.table in (
       omega (
         arith,
         b.requires.0,
-        unseen-mark b.args.ports b.args.marks b.args.row b.requires.1.1.row_in
-            (omega (arith, b.well-formed.1.1.1.1.1.1.1.0.1.0.1, h.ports-in-range.at_most, b.requires.1.1.row_in)) b.requires.1.1.not_seen,
+        unseen_mark b.args.ports b.args.marks b.args.row b.requires.1.1.row_in
+            (omega (arith, b.well-formed.1.1.1.1.1.1.1.0.1.0.1, h.ports_in_range.at_most, b.requires.1.1.row_in)) b.requires.1.1.not_seen,
       ),
       record {
-        table = holds_same _ h at-swap-places.swap_places.auto.0;
-        first-in = b.requires.1.0.first-in;
-        second-in = b.requires.1.0.second-in;
+        table = holds_same _ h at_swap_places.swap_places.auto.0;
+        first_in = b.requires.1.0.first_in;
+        second_in = b.requires.1.0.second_in;
       },
     )
 
-output-side-same-length : (t : ℕ) → output-side-lts.Need-same-length (output-side-calls t) (output-side-at t) output-side.Post
-output-side-same-length t c =
-    let at-input-side = c.before.before in
-    at-input-side.input-side.auto.1.1.1.0 ∙ at-input-side.before.before.before.before.before.before.before.swap_places.auto.0
+output_side_same_length : (t : ℕ) → output-side-lts.Need-same-length (output_side_calls t) (output_side_at t) output-side.Post
+output_side_same_length t c =
+    let at_input_side = c.before.before in
+    at_input_side.input-side.auto.1.1.1.0 ∙ at_input_side.before.before.before.before.before.before.before.swap_places.auto.0
 
-output-side-returns : (t : ℕ) → output-side-lts.Need-returns (output-side-calls t) (output-side-at t) output-side.Post
-output-side-returns t c =
-    let at-input-side = c.before.before in
-    let at-if1 = at-input-side.before.before in
-    let at-input-of = at-if1.before in
-    let at-swap-places = at-input-of.before.before.before.before in
-    let b = at-swap-places.before.before.before.before in
+output_side_returns : (t : ℕ) → output-side-lts.Need-returns (output_side_calls t) (output_side_at t) output-side.Post
+output_side_returns t c =
+    let at_input_side = c.before.before in
+    let at_if1 = at_input_side.before.before in
+    let at_input_of = at_if1.before in
+    let at_swap_places = at_input_of.before.before.before.before in
+    let b = at_swap_places.before.before.before.before in
     let a = b.args in
-    run-followed a.frame a.ports a.list.now a.first a.second a.row a.marks
-    a.table.now at-swap-places.swap_places.new.0 at-input-of.Input-of.result
+    run_followed a.frame a.ports a.list.now a.first a.second a.row a.marks
+    a.table.now at_swap_places.swap_places.new.0 at_input_of.Input-of.result
     b.requires.1.1.row_in (omega
-    (arith, b.well-formed.1.1.1.1.1.1.1.0.1.0.1, b.requires.1.0.table.ports-in-range.at_most, b.requires.1.1.row_in)) b.requires.1.1.not_seen
-    at-swap-places.swap_places.ensures at-input-of.Input-of.ensures
-    at-input-side.input-side.new.1.1.1.0 at-if1.if1.true at-input-side.input-side.ensures
+    (arith, b.well-formed.1.1.1.1.1.1.1.0.1.0.1, b.requires.1.0.table.ports_in_range.at_most, b.requires.1.1.row_in)) b.requires.1.1.not_seen
+    at_swap_places.swap_places.ensures at_input_of.Input-of.ensures
+    at_input_side.input-side.new.1.1.1.0 at_if1.if1.true at_input_side.input-side.ensures
 
-output-side-same-length-2 : (t : ℕ) → output-side-lts.Need-same-length-2 (output-side-calls t) (output-side-at t) output-side.Post
-output-side-same-length-2 t c = c.before.before.before.before.before.swap_places.auto.0
+output_side_same_length_2 : (t : ℕ) → output-side-lts.Need-same-length-2 (output_side_calls t) (output_side_at t) output-side.Post
+output_side_same_length_2 t c = c.before.before.before.before.before.swap_places.auto.0
 
-output-side-returns-2 : (t : ℕ) → output-side-lts.Need-returns-2 (output-side-calls t) (output-side-at t) output-side.Post
-output-side-returns-2 t c =
-    let at-swap-places = c.before.before.before.before.before in
-    let b = at-swap-places.before.before.before.before in
+output_side_returns_2 : (t : ℕ) → output-side-lts.Need-returns-2 (output_side_calls t) (output_side_at t) output-side.Post
+output_side_returns_2 t c =
+    let at_swap_places = c.before.before.before.before.before in
+    let b = at_swap_places.before.before.before.before in
     let a = b.args in
-    run-ended a.frame a.ports a.list.now a.first a.second a.row a.marks
-    a.table.now at-swap-places.swap_places.new.0 c.before.Input-of.result
+    run_ended a.frame a.ports a.list.now a.first a.second a.row a.marks
+    a.table.now at_swap_places.swap_places.new.0 c.before.Input-of.result
     b.requires.1.1.row_in (omega
-    (arith, b.well-formed.1.1.1.1.1.1.1.0.1.0.1, b.requires.1.0.table.ports-in-range.at_most, b.requires.1.1.row_in)) b.requires.1.1.not_seen
-    at-swap-places.swap_places.ensures c.before.Input-of.ensures c.if1.false
+    (arith, b.well-formed.1.1.1.1.1.1.1.0.1.0.1, b.requires.1.0.table.ports_in_range.at_most, b.requires.1.1.row_in)) b.requires.1.1.not_seen
+    at_swap_places.swap_places.ensures c.before.Input-of.ensures c.if1.false
 
 pub +input-side-output-side-spec : {M : Type 1} → statement M
-+input-side-output-side-spec = close μ-input-side μ-output-side (λ t. input-side-lts.spec (input-side-calls t)
-    (input-side-at t)
++input-side-output-side-spec = close μ_input_side μ_output_side (λ t. input-side-lts.spec (input_side_calls t)
+    (input_side_at t)
     input-side.Post
-    (input-side-row-holding-requires t)
-    (input-side-output-side-requires t)
-    (input-side-same-length t)
-    (input-side-returns t)
-    (input-side-same-length-2 t)
-    (input-side-returns-2 t))
-    λ t. output-side-lts.spec (output-side-calls t)
-    (output-side-at t)
+    (input_side_row_holding_requires t)
+    (input_side_output_side_requires t)
+    (input_side_same_length t)
+    (input_side_returns t)
+    (input_side_same_length_2 t)
+    (input_side_returns_2 t))
+    λ t. output-side-lts.spec (output_side_calls t)
+    (output_side_at t)
     output-side.Post
-    (output-side-mul-start t)
-    (output-side-add-swap-places t)
-    (output-side-add-swap-places-2 t)
-    (output-side-swap-places-requires t)
-    (output-side-add-input-of t)
-    (output-side-slice-read-input-of t)
-    (output-side-cast-input-of t)
-    (output-side-input-of-requires t)
-    (output-side-array-write-seen t)
-    (output-side-input-side-requires t)
-    (output-side-same-length t)
-    (output-side-returns t)
-    (output-side-same-length-2 t)
-    (output-side-returns-2 t)
+    (output_side_mul_start t)
+    (output_side_add_swap_places t)
+    (output_side_add_swap_places_2 t)
+    (output_side_swap_places_requires t)
+    (output_side_add_input_of t)
+    (output_side_slice_read_input_of t)
+    (output_side_cast_input_of t)
+    (output_side_input_of_requires t)
+    (output_side_array_write_seen t)
+    (output_side_input_side_requires t)
+    (output_side_same_length t)
+    (output_side_returns t)
+    (output_side_same_length_2 t)
+    (output_side_returns_2 t)

@@ -5,80 +5,80 @@ use native.Mathlib.Omega.{arith}
 use mir.Facts.{Fits-widen}
 use borrow.Author.Tests.{eq-eqb, ne_eqb}
 use lib.Dec.{eqb}
-use Rattle.answers.proofs.Lowest.{Searched, search-start, search-more, somewhere-test, nowhere-test}
+use Rattle.answers.proofs.Lowest.{Searched, search_start, search_more, somewhere_test, nowhere_test}
 use Rattle.flows.specs.Flows.{input_of}
 use Rattle.tables.specs.Accepted.{entry}
-use Rattle.tables.proofs.Places.{place-within}
+use Rattle.tables.proofs.Places.{place_within}
 use Rattle.builder.proofs.slots.input_used.Statement.{statement}
 use Rattle.builder.proofs.slots.input_used.Tie as tie
 
-abbrev invariant-loop : tie.invariant-loop
-invariant-loop frame ports list table input slot row₀ row = Searched 0 ports (λ r. eqb (input_of list (entry frame table r slot)) input) row
+abbrev invariant_loop : tie.invariant_loop
+invariant_loop frame ports list table input slot row₀ row = Searched 0 ports (λ r. eqb (input_of list (entry frame table r slot)) input) row
 
-abbrev decreases-loop : tie.decreases-loop
-decreases-loop frame ports list table input slot row₀ row = ports - row
+abbrev decreases_loop : tie.decreases_loop
+decreases_loop frame ports list table input slot row₀ row = ports - row
 
-loop-holds : tie.Need-loop-init invariant-loop decreases-loop
-loop-holds c = search-start 0 _ _
+loop_holds : tie.Need-loop-init invariant_loop decreases_loop
+loop_holds c = search_start 0 _ _
 
-mul-input-of : tie.Need-overflow-mul-input-of invariant-loop decreases-loop
-mul-input-of c =
+mul_input_of : tie.Need-overflow-mul-input-of invariant_loop decreases_loop
+mul_input_of c =
     let pre = c.before.before.before.before.requires in
-    omega (arith, place-within pre.0 c.before.loop.row c.before.before.before.before.args.slot c.loop-test.true pre.1)
+    omega (arith, place_within pre.0 c.before.loop.row c.before.before.before.before.args.slot c.loop-test.true pre.1)
 
-add-input-of : tie.Need-overflow-add-input-of invariant-loop decreases-loop
-add-input-of c =
+add_input_of : tie.Need-overflow-add-input-of invariant_loop decreases_loop
+add_input_of c =
     let pre = c.before.before.before.before.requires in
-    omega (arith, place-within pre.0 c.before.loop.row c.before.before.before.before.args.slot c.loop-test.true pre.1)
+    omega (arith, place_within pre.0 c.before.loop.row c.before.before.before.before.args.slot c.loop-test.true pre.1)
 
-shared-slice-read-input-of : tie.Need-shared-slice-read-input-of invariant-loop decreases-loop
-shared-slice-read-input-of c =
+shared_slice_read_input_of : tie.Need-shared-slice-read-input-of invariant_loop decreases_loop
+shared_slice_read_input_of c =
     let pre = c.before.before.before.before.before.requires in
-    place-within pre.0 c.before.before.loop.row c.before.before.before.before.before.args.slot c.before.loop-test.true pre.1
+    place_within pre.0 c.before.before.loop.row c.before.before.before.before.before.args.slot c.before.loop-test.true pre.1
 
-cast-input-of : tie.Need-overflow-cast-input-of invariant-loop decreases-loop
-cast-input-of c = Fits-widen tt (c.shared-slice-known3.given _)
+cast_input_of : tie.Need-overflow-cast-input-of invariant_loop decreases_loop
+cast_input_of c = Fits-widen tt (c.shared-slice-known3.given _)
 
-input-of-requires : tie.Need-input-of-requires invariant-loop decreases-loop
-input-of-requires c κs = tt
+input_of_requires : tie.Need-input-of-requires invariant_loop decreases_loop
+input_of_requires c κs = tt
 
-returns : tie.Need-returns invariant-loop decreases-loop
+returns : tie.Need-returns invariant_loop decreases_loop
 returns c =
-    let at-loop = c.before.before.before.before in
-    let a = at-loop.before.before.before.args in
-    sym (somewhere-test 0 a.ports (λ r. eqb (input_of a.list.now (entry a.frame a.table.now r a.slot)) a.input)
-    at-loop.loop.row (omega arith) (omega arith)
+    let at_loop = c.before.before.before.before in
+    let a = at_loop.before.before.before.args in
+    sym (somewhere_test 0 a.ports (λ r. eqb (input_of a.list.now (entry a.frame a.table.now r a.slot)) a.input)
+    at_loop.loop.row (omega arith) (omega arith)
     (eq-eqb _ _ (sym c.before.Input-of.ensures ∙ c.if1.true)))
 
-add_row : tie.Need-overflow-add-row invariant-loop decreases-loop
+add_row : tie.Need-overflow-add-row invariant_loop decreases_loop
 add_row c = omega arith
 
-loop-less : tie.Need-loop-smaller invariant-loop decreases-loop
-loop-less c = omega arith
+loop_less : tie.Need-loop-smaller invariant_loop decreases_loop
+loop_less c = omega arith
 
-loop-again : tie.Need-loop-preserved invariant-loop decreases-loop
-loop-again c = search-more c.before.before.before.before.loop.invariant (omega arith) (ne_eqb _ _ (λ e. c.if1.false (c.before.Input-of.ensures ∙ e)))
+loop_again : tie.Need-loop-preserved invariant_loop decreases_loop
+loop_again c = search_more c.before.before.before.before.loop.invariant (omega arith) (ne_eqb _ _ (λ e. c.if1.false (c.before.Input-of.ensures ∙ e)))
 
-returns-2 : tie.Need-returns-2 invariant-loop decreases-loop
-returns-2 c =
+returns_2 : tie.Need-returns-2 invariant_loop decreases_loop
+returns_2 c =
     let a = c.before.before.before.before.args in
-    sym (nowhere-test 0 a.ports (λ r. eqb (input_of a.list.now (entry a.frame a.table.now r a.slot)) a.input)
-    (λ k l u. c.before.loop.invariant.none-lower k l (omega arith)))
+    sym (nowhere_test 0 a.ports (λ r. eqb (input_of a.list.now (entry a.frame a.table.now r a.slot)) a.input)
+    (λ k l u. c.before.loop.invariant.none_lower k l (omega arith)))
 
-pub input-used-spec : {M : Type 1} → statement M
-input-used-spec =
+pub input_used_spec : {M : Type 1} → statement M
+input_used_spec =
     tie.close
     (tie.spec
-    invariant-loop
-    decreases-loop
-    loop-holds
-    mul-input-of
-    add-input-of
-    shared-slice-read-input-of
-    cast-input-of
-    input-of-requires
+    invariant_loop
+    decreases_loop
+    loop_holds
+    mul_input_of
+    add_input_of
+    shared_slice_read_input_of
+    cast_input_of
+    input_of_requires
     returns
     add_row
-    loop-less
-    loop-again
-    returns-2)
+    loop_less
+    loop_again
+    returns_2)

@@ -8,8 +8,8 @@ use Rattle.calls.proofs.buffers.words_within.Tie as tie
 returns : tie.Need-returns
 returns c = (omega arith, sym (length-take-le _ _ (omega arith)))
 
-returns-2 : tie.Need-returns-2
-returns-2 c = (c.if1.false, sym (length-take-le _ _ c.if1.false))
+returns_2 : tie.Need-returns-2
+returns_2 c = (c.if1.false, sym (length-take-le _ _ c.if1.false))
 
-pub words-within-spec : {M : Type 1} → statement M
-words-within-spec = tie.close (tie.spec returns returns-2)
+pub words_within_spec : {M : Type 1} → statement M
+words_within_spec = tie.close (tie.spec returns returns_2)

@@ -6,47 +6,47 @@ use borrow.Author.Rules.{rules}
 use Rattle.calls.proofs.cycle_calls.fill_ready.Statement.{statement}
 use Rattle.calls.proofs.cycle_calls.fill_ready.Tie as tie
 
-abbrev invariant-loop : tie.invariant-loop
-invariant-loop state ready₀ messages s₀ message₀ ready s message = length ready ≡ length ready₀
+abbrev invariant_loop : tie.invariant_loop
+invariant_loop state ready₀ messages s₀ message₀ ready s message = length ready ≡ length ready₀
 
-abbrev decreases-loop : tie.decreases-loop
-decreases-loop state ready₀ messages s₀ message₀ ready s message = messages - message
+abbrev decreases_loop : tie.decreases_loop
+decreases_loop state ready₀ messages s₀ message₀ ready s message = messages - message
 
-loop-holds : tie.Need-loop-init invariant-loop decreases-loop
-loop-holds c = search rules
+loop_holds : tie.Need-loop-init invariant_loop decreases_loop
+loop_holds c = search rules
 
-pick-requires : tie.Need-pick-requires invariant-loop decreases-loop
-pick-requires c κs = search rules
+pick_requires : tie.Need-pick-requires invariant_loop decreases_loop
+pick_requires c κs = search rules
 
-store-byte-requires : tie.Need-store-byte-requires invariant-loop decreases-loop
-store-byte-requires c κs = search rules
+store_byte_requires : tie.Need-store-byte-requires invariant_loop decreases_loop
+store_byte_requires c κs = search rules
 
-add-message : tie.Need-overflow-add-message invariant-loop decreases-loop
-add-message c = search rules
+add_message : tie.Need-overflow-add-message invariant_loop decreases_loop
+add_message c = search rules
 
-loop-less : tie.Need-loop-smaller invariant-loop decreases-loop
-loop-less c = search rules
+loop_less : tie.Need-loop-smaller invariant_loop decreases_loop
+loop_less c = search rules
 
-loop-again : tie.Need-loop-preserved invariant-loop decreases-loop
-loop-again c = search rules
+loop_again : tie.Need-loop-preserved invariant_loop decreases_loop
+loop_again c = search rules
 
-same_length : tie.Need-same-length invariant-loop decreases-loop
+same_length : tie.Need-same-length invariant_loop decreases_loop
 same_length c = search rules
 
-returns : tie.Need-returns invariant-loop decreases-loop
+returns : tie.Need-returns invariant_loop decreases_loop
 returns c = search rules
 
-pub fill-ready-spec : {M : Type 1} → statement M
-fill-ready-spec =
+pub fill_ready_spec : {M : Type 1} → statement M
+fill_ready_spec =
     tie.close
     (tie.spec
-    invariant-loop
-    decreases-loop
-    loop-holds
-    pick-requires
-    store-byte-requires
-    add-message
-    loop-less
-    loop-again
+    invariant_loop
+    decreases_loop
+    loop_holds
+    pick_requires
+    store_byte_requires
+    add_message
+    loop_less
+    loop_again
     same_length
     returns)

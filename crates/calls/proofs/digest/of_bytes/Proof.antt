@@ -5,47 +5,47 @@ use borrow.Author.Rules.{rules}
 use Rattle.calls.proofs.digest.of_bytes.Statement.{statement}
 use Rattle.calls.proofs.digest.of_bytes.Tie as tie
 
-abbrev invariant-loop : tie.invariant-loop
-invariant-loop bytes digest₀ i₀ digest i = i ≤ length bytes
+abbrev invariant_loop : tie.invariant_loop
+invariant_loop bytes digest₀ i₀ digest i = i ≤ length bytes
 
-abbrev decreases-loop : tie.decreases-loop
-decreases-loop bytes digest₀ i₀ digest i = length bytes - i
+abbrev decreases_loop : tie.decreases_loop
+decreases_loop bytes digest₀ i₀ digest i = length bytes - i
 
-loop-holds : tie.Need-loop-init invariant-loop decreases-loop
-loop-holds c = search rules
+loop_holds : tie.Need-loop-init invariant_loop decreases_loop
+loop_holds c = search rules
 
-shared-slice-read-widened : tie.Need-shared-slice-read-widened invariant-loop decreases-loop
-shared-slice-read-widened c = search rules
+shared_slice_read_widened : tie.Need-shared-slice-read-widened invariant_loop decreases_loop
+shared_slice_read_widened c = search rules
 
-widened-requires : tie.Need-widened-requires invariant-loop decreases-loop
-widened-requires c κs = search rules
+widened_requires : tie.Need-widened-requires invariant_loop decreases_loop
+widened_requires c κs = search rules
 
-mixed-requires : tie.Need-mixed-requires invariant-loop decreases-loop
-mixed-requires c κs = search rules
+mixed_requires : tie.Need-mixed-requires invariant_loop decreases_loop
+mixed_requires c κs = search rules
 
-add-i : tie.Need-overflow-add-i invariant-loop decreases-loop
-add-i c = search rules
+add_i : tie.Need-overflow-add-i invariant_loop decreases_loop
+add_i c = search rules
 
-loop-less : tie.Need-loop-smaller invariant-loop decreases-loop
-loop-less c = search rules
+loop_less : tie.Need-loop-smaller invariant_loop decreases_loop
+loop_less c = search rules
 
-loop-again : tie.Need-loop-preserved invariant-loop decreases-loop
-loop-again c = search rules
+loop_again : tie.Need-loop-preserved invariant_loop decreases_loop
+loop_again c = search rules
 
-returns : tie.Need-returns invariant-loop decreases-loop
+returns : tie.Need-returns invariant_loop decreases_loop
 returns c = search rules
 
-pub of-bytes-spec : {M : Type 1} → statement M
-of-bytes-spec =
+pub of_bytes_spec : {M : Type 1} → statement M
+of_bytes_spec =
     tie.close
     (tie.spec
-    invariant-loop
-    decreases-loop
-    loop-holds
-    shared-slice-read-widened
-    widened-requires
-    mixed-requires
-    add-i
-    loop-less
-    loop-again
+    invariant_loop
+    decreases_loop
+    loop_holds
+    shared_slice_read_widened
+    widened_requires
+    mixed_requires
+    add_i
+    loop_less
+    loop_again
     returns)

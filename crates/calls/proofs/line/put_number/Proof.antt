@@ -8,21 +8,21 @@ use Rattle.calls.proofs.line.put_number.Tie as tie
 returns : tie.Need-returns
 returns c = search rules
 
-sub-if2 : tie.Need-overflow-sub-if2
-sub-if2 c = search rules
+sub_if2 : tie.Need-overflow-sub-if2
+sub_if2 c = search rules
 
-returns-2 : tie.Need-returns-2
-returns-2 c = search rules
+returns_2 : tie.Need-returns-2
+returns_2 c = search rules
 
-put-number-requires : tie.Need-put-number-requires
-put-number-requires c κs = omega (arith, digits-length 19 c.before.before.before.before.args.n (omega (arith, c.before.before.before.before.ranges.n.fits)) (omega (arith, c.before.before.before.before.ranges.n.fits)))
+put_number_requires : tie.Need-put-number-requires
+put_number_requires c κs = omega (arith, digits-length 19 c.before.before.before.before.args.n (omega (arith, c.before.before.before.before.ranges.n.fits)) (omega (arith, c.before.before.before.before.ranges.n.fits)))
 
 same_length : tie.Need-same-length
 same_length c = search rules
 
-returns-3 : tie.Need-returns-3
-returns-3 c = search rules
+returns_3 : tie.Need-returns-3
+returns_3 c = search rules
 
-pub put-number-spec : {M : Type 1} → statement M
-put-number-spec =
-    tie.close (tie.spec returns sub-if2 returns-2 put-number-requires same_length returns-3)
+pub put_number_spec : {M : Type 1} → statement M
+put_number_spec =
+    tie.close (tie.spec returns sub_if2 returns_2 put_number_requires same_length returns_3)

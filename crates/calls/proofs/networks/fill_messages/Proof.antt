@@ -6,47 +6,47 @@ use borrow.Author.Rules.{rules}
 use Rattle.calls.proofs.networks.fill_messages.Statement.{statement}
 use Rattle.calls.proofs.networks.fill_messages.Tie as tie
 
-abbrev invariant-loop : tie.invariant-loop
-invariant-loop state sizes₀ sets₀ messages largest s₀ message₀ sizes sets s message = (0 < largest) × ((length sizes ≡ length sizes₀) × (length sets ≡ length sets₀))
+abbrev invariant_loop : tie.invariant_loop
+invariant_loop state sizes₀ sets₀ messages largest s₀ message₀ sizes sets s message = (0 < largest) × ((length sizes ≡ length sizes₀) × (length sets ≡ length sets₀))
 
-abbrev decreases-loop : tie.decreases-loop
-decreases-loop state sizes₀ sets₀ messages largest s₀ message₀ sizes sets s message = messages - message
+abbrev decreases_loop : tie.decreases_loop
+decreases_loop state sizes₀ sets₀ messages largest s₀ message₀ sizes sets s message = messages - message
 
-loop-holds : tie.Need-loop-init invariant-loop decreases-loop
-loop-holds c = search rules
+loop_holds : tie.Need-loop-init invariant_loop decreases_loop
+loop_holds c = search rules
 
-fill-message-requires : tie.Need-fill-message-requires invariant-loop decreases-loop
-fill-message-requires c κs = search rules
+fill_message_requires : tie.Need-fill-message-requires invariant_loop decreases_loop
+fill_message_requires c κs = search rules
 
-add-message : tie.Need-overflow-add-message invariant-loop decreases-loop
-add-message c = search rules
+add_message : tie.Need-overflow-add-message invariant_loop decreases_loop
+add_message c = search rules
 
-loop-less : tie.Need-loop-smaller invariant-loop decreases-loop
-loop-less c = search rules
+loop_less : tie.Need-loop-smaller invariant_loop decreases_loop
+loop_less c = search rules
 
-loop-again : tie.Need-loop-preserved invariant-loop decreases-loop
-loop-again c = search rules
+loop_again : tie.Need-loop-preserved invariant_loop decreases_loop
+loop_again c = search rules
 
-same_length : tie.Need-same-length invariant-loop decreases-loop
+same_length : tie.Need-same-length invariant_loop decreases_loop
 same_length c = search rules
 
-same-length-2 : tie.Need-same-length-2 invariant-loop decreases-loop
-same-length-2 c = search rules
+same_length_2 : tie.Need-same-length-2 invariant_loop decreases_loop
+same_length_2 c = search rules
 
-returns : tie.Need-returns invariant-loop decreases-loop
+returns : tie.Need-returns invariant_loop decreases_loop
 returns c = search rules
 
-pub fill-messages-spec : {M : Type 1} → statement M
-fill-messages-spec =
+pub fill_messages_spec : {M : Type 1} → statement M
+fill_messages_spec =
     tie.close
     (tie.spec
-    invariant-loop
-    decreases-loop
-    loop-holds
-    fill-message-requires
-    add-message
-    loop-less
-    loop-again
+    invariant_loop
+    decreases_loop
+    loop_holds
+    fill_message_requires
+    add_message
+    loop_less
+    loop_again
     same_length
-    same-length-2
+    same_length_2
     returns)

@@ -4,11 +4,11 @@ use native.Mathlib.Nat.{mod-lt}
 use Rattle.calls.proofs.sequence.below.Statement.{statement}
 use Rattle.calls.proofs.sequence.below.Tie as tie
 
-rem-result : tie.Need-nonzero-rem-result
-rem-result c = search rules
+rem_result : tie.Need-nonzero-rem-result
+rem_result c = search rules
 
 returns : tie.Need-returns
 returns c = mod-lt _ c.requires
 
-pub below-spec : {M : Type 1} → statement M
-below-spec = tie.close (tie.spec rem-result returns)
+pub below_spec : {M : Type 1} → statement M
+below_spec = tie.close (tie.spec rem_result returns)

@@ -8,14 +8,14 @@ use Rattle.calls.proofs.table_calls.entries.Tie as tie
 returns : tie.Need-returns
 returns c = search rules
 
-returns-2 : tie.Need-returns-2
-returns-2 c = search rules
+returns_2 : tie.Need-returns-2
+returns_2 c = search rules
 
-mul-result : tie.Need-overflow-mul-result
-mul-result c = omega (arith, mul-le-mul c.if2.false c.before.if1.false)
+mul_result : tie.Need-overflow-mul-result
+mul_result c = omega (arith, mul-le-mul c.if2.false c.before.if1.false)
 
-returns-3 : tie.Need-returns-3
-returns-3 c = omega (arith, mul-le-mul c.if2.false c.before.if1.false)
+returns_3 : tie.Need-returns-3
+returns_3 c = omega (arith, mul-le-mul c.if2.false c.before.if1.false)
 
-pub entries-spec : {M : Type 1} → statement M
-entries-spec = tie.close (tie.spec returns returns-2 mul-result returns-3)
+pub entries_spec : {M : Type 1} → statement M
+entries_spec = tie.close (tie.spec returns returns_2 mul_result returns_3)

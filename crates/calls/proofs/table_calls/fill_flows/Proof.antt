@@ -6,43 +6,43 @@ use borrow.Author.Rules.{rules}
 use Rattle.calls.proofs.table_calls.fill_flows.Statement.{statement}
 use Rattle.calls.proofs.table_calls.fill_flows.Tie as tie
 
-abbrev invariant-loop : tie.invariant-loop
-invariant-loop state list₀ flows ports frame s₀ passed₀ list s passed = (flows < 9) × ((0 < ports) × ((0 < frame) × (length list ≡ length list₀)))
+abbrev invariant_loop : tie.invariant_loop
+invariant_loop state list₀ flows ports frame s₀ passed₀ list s passed = (flows < 9) × ((0 < ports) × ((0 < frame) × (length list ≡ length list₀)))
 
-abbrev decreases-loop : tie.decreases-loop
-decreases-loop state list₀ flows ports frame s₀ passed₀ list s passed = flows - passed
+abbrev decreases_loop : tie.decreases_loop
+decreases_loop state list₀ flows ports frame s₀ passed₀ list s passed = flows - passed
 
-loop-holds : tie.Need-loop-init invariant-loop decreases-loop
-loop-holds c = search rules
+loop_holds : tie.Need-loop-init invariant_loop decreases_loop
+loop_holds c = search rules
 
-fill-flow-requires : tie.Need-fill-flow-requires invariant-loop decreases-loop
-fill-flow-requires c κs = search rules
+fill_flow_requires : tie.Need-fill-flow-requires invariant_loop decreases_loop
+fill_flow_requires c κs = search rules
 
-add-passed : tie.Need-overflow-add-passed invariant-loop decreases-loop
-add-passed c = search rules
+add_passed : tie.Need-overflow-add-passed invariant_loop decreases_loop
+add_passed c = search rules
 
-loop-less : tie.Need-loop-smaller invariant-loop decreases-loop
-loop-less c = search rules
+loop_less : tie.Need-loop-smaller invariant_loop decreases_loop
+loop_less c = search rules
 
-loop-again : tie.Need-loop-preserved invariant-loop decreases-loop
-loop-again c = search rules
+loop_again : tie.Need-loop-preserved invariant_loop decreases_loop
+loop_again c = search rules
 
-same_length : tie.Need-same-length invariant-loop decreases-loop
+same_length : tie.Need-same-length invariant_loop decreases_loop
 same_length c = search rules
 
-returns : tie.Need-returns invariant-loop decreases-loop
+returns : tie.Need-returns invariant_loop decreases_loop
 returns c = search rules
 
-pub fill-flows-spec : {M : Type 1} → statement M
-fill-flows-spec =
+pub fill_flows_spec : {M : Type 1} → statement M
+fill_flows_spec =
     tie.close
     (tie.spec
-    invariant-loop
-    decreases-loop
-    loop-holds
-    fill-flow-requires
-    add-passed
-    loop-less
-    loop-again
+    invariant_loop
+    decreases_loop
+    loop_holds
+    fill_flow_requires
+    add_passed
+    loop_less
+    loop_again
     same_length
     returns)

@@ -6,43 +6,43 @@ use borrow.Author.Rules.{rules}
 use Rattle.calls.proofs.table_calls.plan_entries.Statement.{statement}
 use Rattle.calls.proofs.table_calls.plan_entries.Tie as tie
 
-abbrev invariant-loop : tie.invariant-loop
-invariant-loop state table₀ entries s₀ place₀ table s place = length table ≡ length table₀
+abbrev invariant_loop : tie.invariant_loop
+invariant_loop state table₀ entries s₀ place₀ table s place = length table ≡ length table₀
 
-abbrev decreases-loop : tie.decreases-loop
-decreases-loop state table₀ entries s₀ place₀ table s place = entries - place
+abbrev decreases_loop : tie.decreases_loop
+decreases_loop state table₀ entries s₀ place₀ table s place = entries - place
 
-loop-holds : tie.Need-loop-init invariant-loop decreases-loop
-loop-holds c = search rules
+loop_holds : tie.Need-loop-init invariant_loop decreases_loop
+loop_holds c = search rules
 
-plan-entry-requires : tie.Need-plan-entry-requires invariant-loop decreases-loop
-plan-entry-requires c κs = search rules
+plan_entry_requires : tie.Need-plan-entry-requires invariant_loop decreases_loop
+plan_entry_requires c κs = search rules
 
-add-place : tie.Need-overflow-add-place invariant-loop decreases-loop
-add-place c = search rules
+add_place : tie.Need-overflow-add-place invariant_loop decreases_loop
+add_place c = search rules
 
-loop-less : tie.Need-loop-smaller invariant-loop decreases-loop
-loop-less c = search rules
+loop_less : tie.Need-loop-smaller invariant_loop decreases_loop
+loop_less c = search rules
 
-loop-again : tie.Need-loop-preserved invariant-loop decreases-loop
-loop-again c = search rules
+loop_again : tie.Need-loop-preserved invariant_loop decreases_loop
+loop_again c = search rules
 
-same_length : tie.Need-same-length invariant-loop decreases-loop
+same_length : tie.Need-same-length invariant_loop decreases_loop
 same_length c = search rules
 
-returns : tie.Need-returns invariant-loop decreases-loop
+returns : tie.Need-returns invariant_loop decreases_loop
 returns c = search rules
 
-pub plan-entries-spec : {M : Type 1} → statement M
-plan-entries-spec =
+pub plan_entries_spec : {M : Type 1} → statement M
+plan_entries_spec =
     tie.close
     (tie.spec
-    invariant-loop
-    decreases-loop
-    loop-holds
-    plan-entry-requires
-    add-place
-    loop-less
-    loop-again
+    invariant_loop
+    decreases_loop
+    loop_holds
+    plan_entry_requires
+    add_place
+    loop_less
+    loop_again
     same_length
     returns)

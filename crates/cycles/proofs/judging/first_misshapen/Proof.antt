@@ -3,65 +3,65 @@ use native.Mathlib.Omega.{arith}
 use Prim.Native.Nat.{◌-◌}
 use mathlib.Core.Path.{sym, ◌∙◌}
 use lib.ListN.{length}
-use Rattle.answers.proofs.Lowest.{Searched, search-start, search-more, search-hit, search-end}
+use Rattle.answers.proofs.Lowest.{Searched, search_start, search_more, search_hit, search_end}
 use Rattle.shore.specs.Cycle.{network}
-use Rattle.cycles.specs.Judging.{messageMisshapen}
+use Rattle.cycles.specs.Judging.{message_misshapen}
 use Rattle.cycles.proofs.judging.first_misshapen.Statement.{statement}
 use Rattle.cycles.proofs.judging.first_misshapen.Tie as tie
 
-abbrev invariant-loop : tie.invariant-loop
-invariant-loop windows sizes sets message₀ message = Searched 0 (length sizes) (messageMisshapen (network windows sizes sets)) message
+abbrev invariant_loop : tie.invariant_loop
+invariant_loop windows sizes sets message₀ message = Searched 0 (length sizes) (message_misshapen (network windows sizes sets)) message
 
-abbrev decreases-loop : tie.decreases-loop
-decreases-loop windows sizes sets message₀ message = length sizes - message
+abbrev decreases_loop : tie.decreases_loop
+decreases_loop windows sizes sets message₀ message = length sizes - message
 
-loop-holds : tie.Need-loop-init invariant-loop decreases-loop
-loop-holds c = search-start 0 _ _
+loop_holds : tie.Need-loop-init invariant_loop decreases_loop
+loop_holds c = search_start 0 _ _
 
-mul-misshapen : tie.Need-overflow-mul-misshapen invariant-loop decreases-loop
-mul-misshapen c = omega arith
+mul_misshapen : tie.Need-overflow-mul-misshapen invariant_loop decreases_loop
+mul_misshapen c = omega arith
 
-shared-slice-read-misshapen : tie.Need-shared-slice-read-misshapen invariant-loop decreases-loop
-shared-slice-read-misshapen c = omega arith
+shared_slice_read_misshapen : tie.Need-shared-slice-read-misshapen invariant_loop decreases_loop
+shared_slice_read_misshapen c = omega arith
 
-mul-misshapen-2 : tie.Need-overflow-mul-misshapen-2 invariant-loop decreases-loop
-mul-misshapen-2 c = omega arith
+mul_misshapen_2 : tie.Need-overflow-mul-misshapen-2 invariant_loop decreases_loop
+mul_misshapen_2 c = omega arith
 
-shared-slice-read-misshapen-2 : tie.Need-shared-slice-read-misshapen-2 invariant-loop decreases-loop
-shared-slice-read-misshapen-2 c = omega arith
+shared_slice_read_misshapen_2 : tie.Need-shared-slice-read-misshapen-2 invariant_loop decreases_loop
+shared_slice_read_misshapen_2 c = omega arith
 
-misshapen-requires : tie.Need-misshapen-requires invariant-loop decreases-loop
-misshapen-requires c κs = omega arith
+misshapen_requires : tie.Need-misshapen-requires invariant_loop decreases_loop
+misshapen_requires c κs = omega arith
 
-returns : tie.Need-returns invariant-loop decreases-loop
-returns c = search-hit c.before.before.before.before.before.loop.invariant (omega arith) (sym c.before.misshapen.ensures ∙ c.if1.true)
+returns : tie.Need-returns invariant_loop decreases_loop
+returns c = search_hit c.before.before.before.before.before.loop.invariant (omega arith) (sym c.before.misshapen.ensures ∙ c.if1.true)
 
-add-message : tie.Need-overflow-add-message invariant-loop decreases-loop
-add-message c = omega arith
+add_message : tie.Need-overflow-add-message invariant_loop decreases_loop
+add_message c = omega arith
 
-loop-less : tie.Need-loop-smaller invariant-loop decreases-loop
-loop-less c = omega arith
+loop_less : tie.Need-loop-smaller invariant_loop decreases_loop
+loop_less c = omega arith
 
-loop-again : tie.Need-loop-preserved invariant-loop decreases-loop
-loop-again c = search-more c.before.before.before.before.before.loop.invariant (omega arith) (sym c.before.misshapen.ensures ∙ c.if1.false)
+loop_again : tie.Need-loop-preserved invariant_loop decreases_loop
+loop_again c = search_more c.before.before.before.before.before.loop.invariant (omega arith) (sym c.before.misshapen.ensures ∙ c.if1.false)
 
-returns-2 : tie.Need-returns-2 invariant-loop decreases-loop
-returns-2 c = search-end c.before.loop.invariant (omega arith)
+returns_2 : tie.Need-returns-2 invariant_loop decreases_loop
+returns_2 c = search_end c.before.loop.invariant (omega arith)
 
-pub first-misshapen-spec : {M : Type 1} → statement M
-first-misshapen-spec =
+pub first_misshapen_spec : {M : Type 1} → statement M
+first_misshapen_spec =
     tie.close
     (tie.spec
-    invariant-loop
-    decreases-loop
-    loop-holds
-    mul-misshapen
-    shared-slice-read-misshapen
-    mul-misshapen-2
-    shared-slice-read-misshapen-2
-    misshapen-requires
+    invariant_loop
+    decreases_loop
+    loop_holds
+    mul_misshapen
+    shared_slice_read_misshapen
+    mul_misshapen_2
+    shared_slice_read_misshapen_2
+    misshapen_requires
     returns
-    add-message
-    loop-less
-    loop-again
-    returns-2)
+    add_message
+    loop_less
+    loop_again
+    returns_2)

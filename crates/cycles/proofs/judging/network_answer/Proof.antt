@@ -2,67 +2,67 @@
 use native.Mathlib.Omega.{arith}
 use mathlib.Core.Path.{sym, ◌∙◌}
 use Rattle.shore.specs.Cycle.{network}
-use Rattle.cycles.proofs.Judged.{sizes-refused, misshapen-named, above-named, nothing-refused, sized}
+use Rattle.cycles.proofs.Judged.{sizes_refused, misshapen_named, above_named, nothing_refused, sized}
 use borrow.Author.Rules.{rules}
 use Rattle.cycles.proofs.judging.network_answer.Statement.{statement}
 use Rattle.cycles.proofs.judging.network_answer.Tie as tie
 
-missized-requires : tie.Need-missized-requires
-missized-requires c κs = search rules
+missized_requires : tie.Need-missized-requires
+missized_requires c κs = search rules
 
-refusal-requires : tie.Need-refusal-requires
-refusal-requires c κs = search rules
+refusal_requires : tie.Need-refusal-requires
+refusal_requires c κs = search rules
 
 returns : tie.Need-returns
 returns c =
     let m = c.before.before in
     let a = m.before.before.before.before.args in
     let w = network a.windows.now a.sizes.now a.sets.now in
-    c.refusal.ensures ∙ sizes-refused w (sym m.missized.ensures ∙ c.before.if1.true)
+    c.refusal.ensures ∙ sizes_refused w (sym m.missized.ensures ∙ c.before.if1.true)
 
-first-misshapen-requires : tie.Need-first-misshapen-requires
-first-misshapen-requires c κs =
+first_misshapen_requires : tie.Need-first-misshapen-requires
+first_misshapen_requires c κs =
     let m = c.before in
     let a = m.before.before.before.before.args in
     let w = network a.windows.now a.sizes.now a.sets.now in
     let lists = sized w (sym m.missized.ensures ∙ c.if1.false) in
-    (lists.few-links, lists.as-many-sets)
+    (lists.few_links, lists.as_many_sets)
 
-naming-requires : tie.Need-naming-requires
-naming-requires c κs =
+naming_requires : tie.Need-naming-requires
+naming_requires c κs =
     let m = c.before.before.before in
     let a = m.before.before.before.before.args in
     let w = network a.windows.now a.sizes.now a.sets.now in
     let lists = sized w (sym m.missized.ensures ∙ c.before.before.if1.false) in
-    omega (arith, lists.few-messages)
+    omega (arith, lists.few_messages)
 
-returns-2 : tie.Need-returns-2
-returns-2 c =
+returns_2 : tie.Need-returns-2
+returns_2 c =
     let low = c.before.before in
     let m = c.before.before.before.before in
     let a = m.before.before.before.before.args in
     let w = network a.windows.now a.sizes.now a.sets.now in
     let fits = sym m.missized.ensures ∙ low.before.if1.false in
-    c.naming.ensures ∙ misshapen-named w fits low.first-misshapen.result low.first-misshapen.ensures c.before.if2.true
+    c.naming.ensures ∙ misshapen_named w fits low.first-misshapen.result low.first-misshapen.ensures c.before.if2.true
 
-first-above-window-requires : tie.Need-first-above-window-requires
-first-above-window-requires c κs =
+first_above_window_requires : tie.Need-first-above-window-requires
+first_above_window_requires c κs =
     let m = c.before.before.before in
     let a = m.before.before.before.before.args in
     let w = network a.windows.now a.sizes.now a.sets.now in
     let lists = sized w (sym m.missized.ensures ∙ c.before.before.if1.false) in
-    (lists.few-links, lists.as-many-sets)
+    (lists.few_links, lists.as_many_sets)
 
-naming-requires-2 : tie.Need-naming-requires-2
-naming-requires-2 c κs =
+naming_requires_2 : tie.Need-naming-requires-2
+naming_requires_2 c κs =
     let m = c.before.before.before.before.before in
     let a = m.before.before.before.before.args in
     let w = network a.windows.now a.sizes.now a.sets.now in
     let lists = sized w (sym m.missized.ensures ∙ c.before.before.before.before.if1.false) in
-    omega (arith, lists.few-messages)
+    omega (arith, lists.few_messages)
 
-returns-3 : tie.Need-returns-3
-returns-3 c =
+returns_3 : tie.Need-returns-3
+returns_3 c =
     let large = c.before.before in
     let low = large.before.before in
     let m = c.before.before.before.before.before.before in
@@ -70,14 +70,14 @@ returns-3 c =
     let w = network a.windows.now a.sizes.now a.sets.now in
     let fits = sym m.missized.ensures ∙ low.before.if1.false in
     c.naming2.ensures
-    ∙ above-named w fits low.first-misshapen.result low.first-misshapen.ensures large.before.if2.false
+    ∙ above_named w fits low.first-misshapen.result low.first-misshapen.ensures large.before.if2.false
     large.first-above-window.result large.first-above-window.ensures c.before.if3.true
 
-done-requires : tie.Need-done-requires
-done-requires c κs = search rules
+done_requires : tie.Need-done-requires
+done_requires c κs = search rules
 
-returns-4 : tie.Need-returns-4
-returns-4 c =
+returns_4 : tie.Need-returns-4
+returns_4 c =
     let large = c.before.before in
     let low = large.before.before in
     let m = c.before.before.before.before.before.before in
@@ -85,21 +85,21 @@ returns-4 c =
     let w = network a.windows.now a.sizes.now a.sets.now in
     let fits = sym m.missized.ensures ∙ low.before.if1.false in
     c.done.ensures
-    ∙ nothing-refused w fits low.first-misshapen.result low.first-misshapen.ensures large.before.if2.false
+    ∙ nothing_refused w fits low.first-misshapen.result low.first-misshapen.ensures large.before.if2.false
     large.first-above-window.result large.first-above-window.ensures c.before.if3.false
 
-pub network-answer-spec : {M : Type 1} → statement M
-network-answer-spec =
+pub network_answer_spec : {M : Type 1} → statement M
+network_answer_spec =
     tie.close
     (tie.spec
-    missized-requires
-    refusal-requires
+    missized_requires
+    refusal_requires
     returns
-    first-misshapen-requires
-    naming-requires
-    returns-2
-    first-above-window-requires
-    naming-requires-2
-    returns-3
-    done-requires
-    returns-4)
+    first_misshapen_requires
+    naming_requires
+    returns_2
+    first_above_window_requires
+    naming_requires_2
+    returns_3
+    done_requires
+    returns_4)

@@ -8,21 +8,21 @@ use borrow.Author.Rules.{rules}
 use Rattle.cycles.proofs.links.too_much.Statement.{statement}
 use Rattle.cycles.proofs.links.too_much.Tie as tie
 
-in-set-requires : tie.Need-in-set-requires
-in-set-requires c κs = search rules
+in_set_requires : tie.Need-in-set-requires
+in_set_requires c κs = search rules
 
 returns : tie.Need-returns
 returns c =
     let a = c.before.before.args in
     sym (ap (λ (b : Bool). b && ltb a.window (a.load + a.size)) (sym c.before.in-set.ensures ∙ not-true _ c.if1.true))
 
-add-result : tie.Need-overflow-add-result
-add-result c = search rules
+add_result : tie.Need-overflow-add-result
+add_result c = search rules
 
-returns-2 : tie.Need-returns-2
-returns-2 c =
+returns_2 : tie.Need-returns-2
+returns_2 c =
     let a = c.before.before.args in
     sym (ap (λ (b : Bool). b && ltb a.window (a.load + a.size)) (sym c.before.in-set.ensures ∙ not-false _ c.if1.false))
 
-pub too-much-spec : {M : Type 1} → statement M
-too-much-spec = tie.close (tie.spec in-set-requires returns add-result returns-2)
+pub too_much_spec : {M : Type 1} → statement M
+too_much_spec = tie.close (tie.spec in_set_requires returns add_result returns_2)

@@ -6,80 +6,80 @@ use mathlib.Core.List.{List}
 use lib.ListN.{length, set, length-set}
 use Rattle.answers.specs.Sums.{one}
 use Rattle.answers.specs.Buffers.{written}
-use Rattle.answers.proofs.Buffers.{written_none, written-more}
-use Rattle.cycles.specs.Steps.{readyNow}
+use Rattle.answers.proofs.Buffers.{written_none, written_more}
+use Rattle.cycles.specs.Steps.{ready_now}
 use Rattle.cycles.proofs.responses.make_ready.Statement.{statement}
 use Rattle.cycles.proofs.responses.make_ready.Tie as tie
 
-abbrev invariant-loop : tie.invariant-loop
-invariant-loop releases responses cycle ready₀ message₀ ready message =
-    (ready ≡ written message (λ i. one (readyNow releases responses cycle i)) ready₀)
+abbrev invariant_loop : tie.invariant_loop
+invariant_loop releases responses cycle ready₀ message₀ ready message =
+    (ready ≡ written message (λ i. one (ready_now releases responses cycle i)) ready₀)
     × ((message ≤ length releases) × (length ready ≡ length ready₀))
 
-abbrev decreases-loop : tie.decreases-loop
-decreases-loop releases responses cycle ready₀ message₀ ready message = length releases - message
+abbrev decreases_loop : tie.decreases_loop
+decreases_loop releases responses cycle ready₀ message₀ ready message = length releases - message
 
-loop-holds : tie.Need-loop-init invariant-loop decreases-loop
-loop-holds c = (sym (written_none _ _), (omega arith, refl))
+loop_holds : tie.Need-loop-init invariant_loop decreases_loop
+loop_holds c = (sym (written_none _ _), (omega arith, refl))
 
-mul-ready-byte : tie.Need-overflow-mul-ready-byte invariant-loop decreases-loop
-mul-ready-byte c = omega arith
+mul_ready_byte : tie.Need-overflow-mul-ready-byte invariant_loop decreases_loop
+mul_ready_byte c = omega arith
 
-shared-slice-read-ready-byte : tie.Need-shared-slice-read-ready-byte invariant-loop decreases-loop
-shared-slice-read-ready-byte c = omega arith
+shared_slice_read_ready_byte : tie.Need-shared-slice-read-ready-byte invariant_loop decreases_loop
+shared_slice_read_ready_byte c = omega arith
 
-mul-ready-byte-2 : tie.Need-overflow-mul-ready-byte-2 invariant-loop decreases-loop
-mul-ready-byte-2 c = omega arith
+mul_ready_byte_2 : tie.Need-overflow-mul-ready-byte-2 invariant_loop decreases_loop
+mul_ready_byte_2 c = omega arith
 
-shared-slice-read-ready-byte-2 : tie.Need-shared-slice-read-ready-byte-2 invariant-loop decreases-loop
-shared-slice-read-ready-byte-2 c = omega arith
+shared_slice_read_ready_byte_2 : tie.Need-shared-slice-read-ready-byte-2 invariant_loop decreases_loop
+shared_slice_read_ready_byte_2 c = omega arith
 
-ready-byte-requires : tie.Need-ready-byte-requires invariant-loop decreases-loop
-ready-byte-requires c κs = omega arith
+ready_byte_requires : tie.Need-ready-byte-requires invariant_loop decreases_loop
+ready_byte_requires c κs = omega arith
 
-slice-write-ready : tie.Need-slice-write-ready invariant-loop decreases-loop
-slice-write-ready c = omega arith
+slice_write_ready : tie.Need-slice-write-ready invariant_loop decreases_loop
+slice_write_ready c = omega arith
 
-add-message : tie.Need-overflow-add-message invariant-loop decreases-loop
-add-message c = omega arith
+add_message : tie.Need-overflow-add-message invariant_loop decreases_loop
+add_message c = omega arith
 
-loop-less : tie.Need-loop-smaller invariant-loop decreases-loop
-loop-less c = omega arith
+loop_less : tie.Need-loop-smaller invariant_loop decreases_loop
+loop_less c = omega arith
 
-loop-again : tie.Need-loop-preserved invariant-loop decreases-loop
-loop-again c =
+loop_again : tie.Need-loop-preserved invariant_loop decreases_loop
+loop_again c =
     let l = c.before.before.before.before.loop in
     let a = c.before.before.before.before.before.before.before.before.args in
-    let f : ℕ → ℕ = λ i. one (readyNow a.releases.now a.responses.now a.cycle i) in (
+    let f : ℕ → ℕ = λ i. one (ready_now a.releases.now a.responses.now a.cycle i) in (
       ap (λ (x : List ℕ). set x l.message c.ready-byte.result) l.invariant.0
-          ∙ written-more f a.ready.now l.message _ c.ready-byte.ensures,
+          ∙ written_more f a.ready.now l.message _ c.ready-byte.ensures,
       (omega arith, simp length-set l.invariant.1.1),
     )
 
-same_length : tie.Need-same-length invariant-loop decreases-loop
+same_length : tie.Need-same-length invariant_loop decreases_loop
 same_length c = c.before.loop.invariant.1.1
 
-returns : tie.Need-returns invariant-loop decreases-loop
+returns : tie.Need-returns invariant_loop decreases_loop
 returns c =
     let a = c.before.before.before.before.before.args in
-    let f : ℕ → ℕ = λ i. one (readyNow a.releases.now a.responses.now a.cycle i) in
+    let f : ℕ → ℕ = λ i. one (ready_now a.releases.now a.responses.now a.cycle i) in
     c.before.loop.invariant.0 ∙ ap (λ (n : ℕ). written n f a.ready.now) (omega arith)
 
-pub make-ready-spec : {M : Type 1} → statement M
-make-ready-spec =
+pub make_ready_spec : {M : Type 1} → statement M
+make_ready_spec =
     tie.close
     (tie.spec
-    invariant-loop
-    decreases-loop
-    loop-holds
-    mul-ready-byte
-    shared-slice-read-ready-byte
-    mul-ready-byte-2
-    shared-slice-read-ready-byte-2
-    ready-byte-requires
-    slice-write-ready
-    add-message
-    loop-less
-    loop-again
+    invariant_loop
+    decreases_loop
+    loop_holds
+    mul_ready_byte
+    shared_slice_read_ready_byte
+    mul_ready_byte_2
+    shared_slice_read_ready_byte_2
+    ready_byte_requires
+    slice_write_ready
+    add_message
+    loop_less
+    loop_again
     same_length
     returns)

@@ -5,76 +5,76 @@ use mathlib.Core.Path.{◌≡◌, refl, sym, ◌∙◌, ap}
 use mathlib.Core.List.{List}
 use lib.ListN.{length, set, length-set}
 use Rattle.answers.specs.Buffers.{written}
-use Rattle.answers.proofs.Buffers.{written_none, written-more}
-use Rattle.shore.specs.Run.{releaseOf, markFor}
+use Rattle.answers.proofs.Buffers.{written_none, written_more}
+use Rattle.shore.specs.Run.{release_of, mark_for}
 use Rattle.cycles.proofs.responses.mark_releases.Statement.{statement}
 use Rattle.cycles.proofs.responses.mark_releases.Tie as tie
 
-abbrev invariant-loop : tie.invariant-loop
-invariant-loop releases cycles responses₀ message₀ responses message =
-    (responses ≡ written message (λ i. markFor (releaseOf releases i) cycles) responses₀)
+abbrev invariant_loop : tie.invariant_loop
+invariant_loop releases cycles responses₀ message₀ responses message =
+    (responses ≡ written message (λ i. mark_for (release_of releases i) cycles) responses₀)
     × ((message ≤ length releases) × (length responses ≡ length responses₀))
 
-abbrev decreases-loop : tie.decreases-loop
-decreases-loop releases cycles responses₀ message₀ responses message = length releases - message
+abbrev decreases_loop : tie.decreases_loop
+decreases_loop releases cycles responses₀ message₀ responses message = length releases - message
 
-loop-holds : tie.Need-loop-init invariant-loop decreases-loop
-loop-holds c = (sym (written_none _ _), (omega arith, refl))
+loop_holds : tie.Need-loop-init invariant_loop decreases_loop
+loop_holds c = (sym (written_none _ _), (omega arith, refl))
 
-mul-mark : tie.Need-overflow-mul-mark invariant-loop decreases-loop
-mul-mark c = omega arith
+mul_mark : tie.Need-overflow-mul-mark invariant_loop decreases_loop
+mul_mark c = omega arith
 
-shared-slice-read-mark : tie.Need-shared-slice-read-mark invariant-loop decreases-loop
-shared-slice-read-mark c = omega arith
+shared_slice_read_mark : tie.Need-shared-slice-read-mark invariant_loop decreases_loop
+shared_slice_read_mark c = omega arith
 
-mark-requires : tie.Need-mark-requires invariant-loop decreases-loop
-mark-requires c κs = omega arith
+mark_requires : tie.Need-mark-requires invariant_loop decreases_loop
+mark_requires c κs = omega arith
 
-mul-responses : tie.Need-overflow-mul-responses invariant-loop decreases-loop
-mul-responses c = omega arith
+mul_responses : tie.Need-overflow-mul-responses invariant_loop decreases_loop
+mul_responses c = omega arith
 
-slice-write-responses : tie.Need-slice-write-responses invariant-loop decreases-loop
-slice-write-responses c = omega arith
+slice_write_responses : tie.Need-slice-write-responses invariant_loop decreases_loop
+slice_write_responses c = omega arith
 
-add-message : tie.Need-overflow-add-message invariant-loop decreases-loop
-add-message c = omega arith
+add_message : tie.Need-overflow-add-message invariant_loop decreases_loop
+add_message c = omega arith
 
-loop-less : tie.Need-loop-smaller invariant-loop decreases-loop
-loop-less c = omega arith
+loop_less : tie.Need-loop-smaller invariant_loop decreases_loop
+loop_less c = omega arith
 
-loop-again : tie.Need-loop-preserved invariant-loop decreases-loop
-loop-again c =
+loop_again : tie.Need-loop-preserved invariant_loop decreases_loop
+loop_again c =
     let l = c.before.before.before.loop in
     let a = c.before.before.before.before.before.before.args in
-    let f : ℕ → ℕ = λ i. markFor (releaseOf a.releases.now i) a.cycles in (
+    let f : ℕ → ℕ = λ i. mark_for (release_of a.releases.now i) a.cycles in (
       ap (λ (x : List ℕ). set x l.message c.mark.result) l.invariant.0
-          ∙ written-more f a.responses.now l.message _ c.mark.ensures,
+          ∙ written_more f a.responses.now l.message _ c.mark.ensures,
       (omega arith, simp length-set l.invariant.1.1),
     )
 
-same_length : tie.Need-same-length invariant-loop decreases-loop
+same_length : tie.Need-same-length invariant_loop decreases_loop
 same_length c = c.before.loop.invariant.1.1
 
-returns : tie.Need-returns invariant-loop decreases-loop
+returns : tie.Need-returns invariant_loop decreases_loop
 returns c =
     let a = c.before.before.before.before.args in
-    let f : ℕ → ℕ = λ i. markFor (releaseOf a.releases.now i) a.cycles in
+    let f : ℕ → ℕ = λ i. mark_for (release_of a.releases.now i) a.cycles in
     c.before.loop.invariant.0 ∙ ap (λ (n : ℕ). written n f a.responses.now) (omega arith)
 
-pub mark-releases-spec : {M : Type 1} → statement M
-mark-releases-spec =
+pub mark_releases_spec : {M : Type 1} → statement M
+mark_releases_spec =
     tie.close
     (tie.spec
-    invariant-loop
-    decreases-loop
-    loop-holds
-    mul-mark
-    shared-slice-read-mark
-    mark-requires
-    mul-responses
-    slice-write-responses
-    add-message
-    loop-less
-    loop-again
+    invariant_loop
+    decreases_loop
+    loop_holds
+    mul_mark
+    shared_slice_read_mark
+    mark_requires
+    mul_responses
+    slice_write_responses
+    add_message
+    loop_less
+    loop_again
     same_length
     returns)

@@ -6,11 +6,11 @@ use Rattle.cycles.proofs.responses.ready_byte.Tie as tie
 returns : tie.Need-returns
 returns c = simp (lt-leb _ _ c.if1.true)
 
-returns-2 : tie.Need-returns-2
-returns-2 c = simp (le-leb _ _ c.before.if1.false, ne_eqb _ _ c.if2.true)
+returns_2 : tie.Need-returns-2
+returns_2 c = simp (le-leb _ _ c.before.if1.false, ne_eqb _ _ c.if2.true)
 
-returns-3 : tie.Need-returns-3
-returns-3 c = simp (le-leb _ _ c.before.if1.false, eq-eqb _ _ c.if2.false)
+returns_3 : tie.Need-returns-3
+returns_3 c = simp (le-leb _ _ c.before.if1.false, eq-eqb _ _ c.if2.false)
 
-pub ready-byte-spec : {M : Type 1} → statement M
-ready-byte-spec = tie.close (tie.spec returns returns-2 returns-3)
+pub ready_byte_spec : {M : Type 1} → statement M
+ready_byte_spec = tie.close (tie.spec returns returns_2 returns_3)

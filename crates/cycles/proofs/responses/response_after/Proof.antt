@@ -7,17 +7,17 @@ use Rattle.cycles.proofs.responses.response_after.Tie as tie
 returns : tie.Need-returns
 returns c = simp (eq-eqb _ _ c.if1.true)
 
-sub-result : tie.Need-overflow-sub-result
-sub-result c = c.before.requires.0 c.if1.false
+sub_result : tie.Need-overflow-sub-result
+sub_result c = c.before.requires.0 c.if1.false
 
-add-result : tie.Need-overflow-add-result
-add-result c = search rules
+add_result : tie.Need-overflow-add-result
+add_result c = search rules
 
-cast-result : tie.Need-overflow-cast-result
-cast-result c = search rules
+cast_result : tie.Need-overflow-cast-result
+cast_result c = search rules
 
-returns-2 : tie.Need-returns-2
-returns-2 c = simp (ne_eqb _ _ c.if1.false)
+returns_2 : tie.Need-returns-2
+returns_2 c = simp (ne_eqb _ _ c.if1.false)
 
-pub response-after-spec : {M : Type 1} → statement M
-response-after-spec = tie.close (tie.spec returns sub-result add-result cast-result returns-2)
+pub response_after_spec : {M : Type 1} → statement M
+response_after_spec = tie.close (tie.spec returns sub_result add_result cast_result returns_2)

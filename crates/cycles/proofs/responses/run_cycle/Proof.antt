@@ -2,44 +2,44 @@
 use native.Mathlib.Omega.{arith}
 use mathlib.Core.Path.{refl}
 use lib.ListN.{replicate}
-use Rattle.answers.specs.Limits.{maxMessages}
+use Rattle.answers.specs.Limits.{max_messages}
 use Rattle.shore.specs.Cycle.{network}
-use Rattle.cycles.proofs.CycleOver.{in-time, cycle-over}
+use Rattle.cycles.proofs.CycleOver.{in_time, cycle_over}
 use borrow.Author.Rules.{rules}
 use Rattle.cycles.proofs.responses.run_cycle.Statement.{statement}
 use Rattle.cycles.proofs.responses.run_cycle.Tie as tie
 
-slice-aggregate-make-ready : tie.Need-slice-aggregate-make-ready
-slice-aggregate-make-ready c = search rules
+slice_aggregate_make_ready : tie.Need-slice-aggregate-make-ready
+slice_aggregate_make_ready c = search rules
 
-make-ready-requires : tie.Need-make-ready-requires
-make-ready-requires c κs = search rules
+make_ready_requires : tie.Need-make-ready-requires
+make_ready_requires c κs = search rules
 
-slice-aggregate-take-ready : tie.Need-slice-aggregate-take-ready
-slice-aggregate-take-ready c = search rules
+slice_aggregate_take_ready : tie.Need-slice-aggregate-take-ready
+slice_aggregate_take_ready c = search rules
 
-slice-aggregate-take-ready-2 : tie.Need-slice-aggregate-take-ready-2
-slice-aggregate-take-ready-2 c = search rules
+slice_aggregate_take_ready_2 : tie.Need-slice-aggregate-take-ready-2
+slice_aggregate_take_ready_2 c = search rules
 
-slice-aggregate-take-ready-3 : tie.Need-slice-aggregate-take-ready-3
-slice-aggregate-take-ready-3 c = search rules
+slice_aggregate_take_ready_3 : tie.Need-slice-aggregate-take-ready-3
+slice_aggregate_take_ready_3 c = search rules
 
-take-ready-requires : tie.Need-take-ready-requires
-take-ready-requires c κs = search rules
+take_ready_requires : tie.Need-take-ready-requires
+take_ready_requires c κs = search rules
 
-slice-aggregate-note-taken : tie.Need-slice-aggregate-note-taken
-slice-aggregate-note-taken c = search rules
+slice_aggregate_note_taken : tie.Need-slice-aggregate-note-taken
+slice_aggregate_note_taken c = search rules
 
-note-taken-requires : tie.Need-note-taken-requires
-note-taken-requires c κs =
+note_taken_requires : tie.Need-note-taken-requires
+note_taken_requires c κs =
     let took = c.before.before.before.before in
     let made = took.before.before.before.before.before in
     let b = made.before.before.before.before.before.before.before.before in
     let a = b.args in
     let w = network a.windows.now a.sizes.now a.sets.now in
     let released =
-    in-time w a.releases.now a.responses.now a.cycle b.requires.1.0 b.requires.0.few-messages
-    (replicate maxMessages 0) made.make-ready.new.1.1.1.0 (replicate maxMessages 0) took.take-ready.new.1.1.1.1.0
+    in_time w a.releases.now a.responses.now a.cycle b.requires.1.0 b.requires.0.few_messages
+    (replicate max_messages 0) made.make-ready.new.1.1.1.0 (replicate max_messages 0) took.take-ready.new.1.1.1.1.0
     refl refl made.make-ready.ensures took.take-ready.ensures.0 in
     (omega arith, (omega arith, (released, b.requires.1.1.1)))
 
@@ -53,21 +53,21 @@ returns c =
     let b = made.before.before.before.before.before.before.before.before in
     let a = b.args in
     let w = network a.windows.now a.sizes.now a.sets.now in
-    cycle-over w a.releases.now a.responses.now a.cycle b.requires.1.0 b.requires.0.few-messages
-    (replicate maxMessages 0) made.make-ready.new.1.1.1.0 (replicate maxMessages 0) took.take-ready.new.1.1.1.1.0
+    cycle_over w a.releases.now a.responses.now a.cycle b.requires.1.0 b.requires.0.few_messages
+    (replicate max_messages 0) made.make-ready.new.1.1.1.0 (replicate max_messages 0) took.take-ready.new.1.1.1.1.0
     refl refl made.make-ready.ensures took.take-ready.ensures.0 _ c.before.before.note-taken.ensures
 
-pub run-cycle-spec : {M : Type 1} → statement M
-run-cycle-spec =
+pub run_cycle_spec : {M : Type 1} → statement M
+run_cycle_spec =
     tie.close
     (tie.spec
-    slice-aggregate-make-ready
-    make-ready-requires
-    slice-aggregate-take-ready
-    slice-aggregate-take-ready-2
-    slice-aggregate-take-ready-3
-    take-ready-requires
-    slice-aggregate-note-taken
-    note-taken-requires
+    slice_aggregate_make_ready
+    make_ready_requires
+    slice_aggregate_take_ready
+    slice_aggregate_take_ready_2
+    slice_aggregate_take_ready_3
+    take_ready_requires
+    slice_aggregate_note_taken
+    note_taken_requires
     same_length
     returns)

@@ -5,51 +5,51 @@ use mathlib.Core.Path.{◌≡◌, refl, ◌∙◌, ap}
 use mathlib.Core.List.{List}
 use lib.ListN.{length}
 use Rattle.answers.specs.Buffers.{written}
-use Rattle.answers.proofs.Buffers.{written-again, written_same}
+use Rattle.answers.proofs.Buffers.{written_again, written_same}
 use Rattle.shore.specs.Cycle.{network, messages}
-use Rattle.shore.specs.Run.{responseBy}
+use Rattle.shore.specs.Run.{response_by}
 use Rattle.cycles.proofs.CycleOver.{none_over, one-over}
 use Rattle.cycles.proofs.responses.run_cycles.Statement.{statement}
 use Rattle.cycles.proofs.responses.run_cycles.Tie as tie
 
-abbrev invariant-loop : tie.invariant-loop
-invariant-loop windows sizes sets releases cycles responses₀ cycle₀ responses cycle =
-    (responses ≡ written (length sizes) (responseBy (network windows sizes sets) releases cycles cycle) responses₀)
+abbrev invariant_loop : tie.invariant_loop
+invariant_loop windows sizes sets releases cycles responses₀ cycle₀ responses cycle =
+    (responses ≡ written (length sizes) (response_by (network windows sizes sets) releases cycles cycle) responses₀)
     × ((cycle ≤ cycles) × (length responses ≡ length responses₀))
 
-abbrev decreases-loop : tie.decreases-loop
-decreases-loop windows sizes sets releases cycles responses₀ cycle₀ responses cycle = cycles - cycle
+abbrev decreases_loop : tie.decreases_loop
+decreases_loop windows sizes sets releases cycles responses₀ cycle₀ responses cycle = cycles - cycle
 
-mark-releases-requires : tie.Need-mark-releases-requires invariant-loop decreases-loop
-mark-releases-requires c κs =
+mark_releases_requires : tie.Need-mark-releases-requires invariant_loop decreases_loop
+mark_releases_requires c κs =
     let asked = c.before.before.before.before.before.before.requires in
-    omega (arith, asked.0.as-many-releases, asked.1)
+    omega (arith, asked.0.as_many_releases, asked.1)
 
-loop-holds : tie.Need-loop-init invariant-loop decreases-loop
-loop-holds c =
+loop_holds : tie.Need-loop-init invariant_loop decreases_loop
+loop_holds c =
     let marked = c.before.before in
     let b = marked.before.before.before.before.before.before.before in
     let a = b.args in
     let w = network a.windows.now a.sizes.now a.sets.now in
-    let first = none_over w a.releases.now a.responses.now _ a.cycles b.requires.0.as-many-releases marked.mark-releases.ensures in
-    (written_same (responseBy w a.releases.now a.cycles 0) a.responses.now _ (messages w) b.requires.1 first, (omega arith, refl))
+    let first = none_over w a.releases.now a.responses.now _ a.cycles b.requires.0.as_many_releases marked.mark-releases.ensures in
+    (written_same (response_by w a.releases.now a.cycles 0) a.responses.now _ (messages w) b.requires.1 first, (omega arith, refl))
 
-run-cycle-requires : tie.Need-run-cycle-requires invariant-loop decreases-loop
-run-cycle-requires c κs =
+run_cycle_requires : tie.Need-run-cycle-requires invariant_loop decreases_loop
+run_cycle_requires c κs =
     let l = c.before.before.loop in
     let marked = c.before.before.before.before.before in
     let asked = marked.before.before.before.before.before.before.before.requires in
     let kept = marked.mark-releases.auto.1.1.0 in
-    (asked.0.network-sized, (asked.0.as-many-releases, (omega (arith, asked.1, l.invariant.1.1, kept), omega (arith, asked.0.cycles-in-range.at_most))))
+    (asked.0.network_sized, (asked.0.as_many_releases, (omega (arith, asked.1, l.invariant.1.1, kept), omega (arith, asked.0.cycles_in_range.at_most))))
 
-add-cycle : tie.Need-overflow-add-cycle invariant-loop decreases-loop
-add-cycle c = omega arith
+add_cycle : tie.Need-overflow-add-cycle invariant_loop decreases_loop
+add_cycle c = omega arith
 
-loop-less : tie.Need-loop-smaller invariant-loop decreases-loop
-loop-less c = omega arith
+loop_less : tie.Need-loop-smaller invariant_loop decreases_loop
+loop_less c = omega arith
 
-loop-again : tie.Need-loop-preserved invariant-loop decreases-loop
-loop-again c =
+loop_again : tie.Need-loop-preserved invariant_loop decreases_loop
+loop_again c =
     let went = c.before.before.run-cycle in
     let l = c.before.before.before.before.before.loop in
     let b = c.before.before.before.before.before.before.before.before in
@@ -60,38 +60,38 @@ loop-again c =
     let X₀ = b.mark-releases.new.1.1.0 in
     let room : messages w ≤ length X₀ = omega (arith, asked.1, b.mark-releases.auto.1.1.0) in (
       one-over w a.releases.now X₀ l.responses went.new.1.1.1.1.1.0 a.cycles l.cycle
-          asked.0.as-many-releases room asked.0.cycles-in-range.at_most (omega arith) l.invariant.0 went.ensures,
+          asked.0.as_many_releases room asked.0.cycles_in_range.at_most (omega arith) l.invariant.0 went.ensures,
       (omega arith, went.auto.1.1.1.1.1.0 ∙ l.invariant.1.1),
     )
 
-same_length : tie.Need-same-length invariant-loop decreases-loop
+same_length : tie.Need-same-length invariant_loop decreases_loop
 same_length c = c.before.loop.invariant.1.1 ∙ c.before.before.before.before.mark-releases.auto.1.1.0
 
-returns : tie.Need-returns invariant-loop decreases-loop
+returns : tie.Need-returns invariant_loop decreases_loop
 returns c =
     let l = c.before.loop in
     let marked = c.before.before.before.before in
     let b = marked.before.before.before.before.before.before.before in
     let a = b.args in
     let w = network a.windows.now a.sizes.now a.sets.now in
-    let by = responseBy w a.releases.now a.cycles in
-    let first = none_over w a.releases.now a.responses.now _ a.cycles b.requires.0.as-many-releases marked.mark-releases.ensures in
+    let by = response_by w a.releases.now a.cycles in
+    let first = none_over w a.releases.now a.responses.now _ a.cycles b.requires.0.as_many_releases marked.mark-releases.ensures in
     l.invariant.0
     ∙ ap (λ (n : ℕ). written (messages w) (by n) marked.mark-releases.new.1.1.0) (omega arith)
     ∙ ap (λ (x : List ℕ). written (messages w) (by a.cycles) x) first
-    ∙ written-again (by 0) (by a.cycles) a.responses.now (messages w) b.requires.1
+    ∙ written_again (by 0) (by a.cycles) a.responses.now (messages w) b.requires.1
 
-pub run-cycles-spec : {M : Type 1} → statement M
-run-cycles-spec =
+pub run_cycles_spec : {M : Type 1} → statement M
+run_cycles_spec =
     tie.close
     (tie.spec
-    invariant-loop
-    decreases-loop
-    mark-releases-requires
-    loop-holds
-    run-cycle-requires
-    add-cycle
-    loop-less
-    loop-again
+    invariant_loop
+    decreases_loop
+    mark_releases_requires
+    loop_holds
+    run_cycle_requires
+    add_cycle
+    loop_less
+    loop_again
     same_length
     returns)

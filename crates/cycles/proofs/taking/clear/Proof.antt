@@ -5,41 +5,41 @@ use mathlib.Core.Path.{◌≡◌, refl, sym, ◌∙◌, ap}
 use mathlib.Core.List.{List}
 use lib.ListN.{length, set, length-set}
 use Rattle.answers.specs.Buffers.{written}
-use Rattle.answers.proofs.Buffers.{written_none, written-more}
+use Rattle.answers.proofs.Buffers.{written_none, written_more}
 use Rattle.cycles.proofs.taking.clear.Statement.{statement}
 use Rattle.cycles.proofs.taking.clear.Tie as tie
 
-abbrev invariant-loop : tie.invariant-loop
-invariant-loop load₀ links link₀ load link = (load ≡ written link (λ l. 0) load₀) × ((link ≤ links) × (length load ≡ length load₀))
+abbrev invariant_loop : tie.invariant_loop
+invariant_loop load₀ links link₀ load link = (load ≡ written link (λ l. 0) load₀) × ((link ≤ links) × (length load ≡ length load₀))
 
-abbrev decreases-loop : tie.decreases-loop
-decreases-loop load₀ links link₀ load link = links - link
+abbrev decreases_loop : tie.decreases_loop
+decreases_loop load₀ links link₀ load link = links - link
 
-loop-holds : tie.Need-loop-init invariant-loop decreases-loop
-loop-holds c = (sym (written_none (λ l. 0) _), (omega arith, refl))
+loop_holds : tie.Need-loop-init invariant_loop decreases_loop
+loop_holds c = (sym (written_none (λ l. 0) _), (omega arith, refl))
 
-mul-load : tie.Need-overflow-mul-load invariant-loop decreases-loop
-mul-load c = omega arith
+mul_load : tie.Need-overflow-mul-load invariant_loop decreases_loop
+mul_load c = omega arith
 
-slice-write-load : tie.Need-slice-write-load invariant-loop decreases-loop
-slice-write-load c = omega arith
+slice_write_load : tie.Need-slice-write-load invariant_loop decreases_loop
+slice_write_load c = omega arith
 
-add-link : tie.Need-overflow-add-link invariant-loop decreases-loop
-add-link c = omega arith
+add_link : tie.Need-overflow-add-link invariant_loop decreases_loop
+add_link c = omega arith
 
-loop-less : tie.Need-loop-smaller invariant-loop decreases-loop
-loop-less c = omega arith
+loop_less : tie.Need-loop-smaller invariant_loop decreases_loop
+loop_less c = omega arith
 
-loop-again : tie.Need-loop-preserved invariant-loop decreases-loop
-loop-again c =
+loop_again : tie.Need-loop-preserved invariant_loop decreases_loop
+loop_again c =
     let l = c.before.loop in
     let X = c.before.before.args.load.now in
-    (ap (λ (x : List ℕ). set x l.link 0) l.invariant.0 ∙ written-more (λ k. 0) X l.link 0 refl, (omega arith, simp length-set l.invariant.1.1))
+    (ap (λ (x : List ℕ). set x l.link 0) l.invariant.0 ∙ written_more (λ k. 0) X l.link 0 refl, (omega arith, simp length-set l.invariant.1.1))
 
-same_length : tie.Need-same-length invariant-loop decreases-loop
+same_length : tie.Need-same-length invariant_loop decreases_loop
 same_length c = c.before.loop.invariant.1.1
 
-returns : tie.Need-returns invariant-loop decreases-loop
+returns : tie.Need-returns invariant_loop decreases_loop
 returns c =
     let l = c.before.loop in
     l.invariant.0 ∙ ap (λ (n : ℕ). written n (λ k. 0) c.before.before.args.load.now) (omega arith)
@@ -48,13 +48,13 @@ pub clear_spec : {M : Type 1} → statement M
 clear_spec =
     tie.close
     (tie.spec
-    invariant-loop
-    decreases-loop
-    loop-holds
-    mul-load
-    slice-write-load
-    add-link
-    loop-less
-    loop-again
+    invariant_loop
+    decreases_loop
+    loop_holds
+    mul_load
+    slice_write_load
+    add_link
+    loop_less
+    loop_again
     same_length
     returns)

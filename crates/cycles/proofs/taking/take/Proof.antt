@@ -15,22 +15,22 @@ use Rattle.cycles.proofs.taking.take.Tie as tie
 returns : tie.Need-returns
 returns c = (simp (eq-eqb _ _ c.if1.true), simp (eq-eqb _ _ c.if1.true))
 
-no-room-requires : tie.Need-no-room-requires
-no-room-requires c κs = search rules
+no_room_requires : tie.Need-no-room-requires
+no_room_requires c κs = search rules
 
 same_length : tie.Need-same-length
 same_length c = search rules
 
-returns-2 : tie.Need-returns-2
-returns-2 c =
+returns_2 : tie.Need-returns-2
+returns_2 c =
     let a = c.before.before.before.before.before.before.args in
     let W = a.windows.now in
     let X = a.load.now in
     let no = held W X a.size a.set a.ready (sym c.before.no_room.ensures ∙ c.if2.true) in
     (sym (ap one no), sym (ap (λ (b : Bool). cond b (added (length W) a.size a.set X) X) no))
 
-add-requires : tie.Need-add-requires
-add-requires c κs =
+add_requires : tie.Need-add-requires
+add_requires c κs =
     let known = c.before.before.before.before.before in
     let b = known.before.before in
     let a = b.args in
@@ -41,11 +41,11 @@ add-requires c κs =
     let fit = all_fit W X a.size a.set windows loads (sym c.before.before.no_room.ensures ∙ c.before.if2.false) in
     (b.requires.0, (b.requires.1, fit))
 
-same-length-2 : tie.Need-same-length-2
-same-length-2 c = search rules
+same_length_2 : tie.Need-same-length-2
+same_length_2 c = search rules
 
-returns-3 : tie.Need-returns-3
-returns-3 c =
+returns_3 : tie.Need-returns-3
+returns_3 c =
     let asked = c.before.before.before.before.before in
     let b = asked.before.before in
     let a = b.before.before.before.args in
@@ -58,4 +58,4 @@ returns-3 c =
 pub take_spec : {M : Type 1} → statement M
 take_spec =
     tie.close
-    (tie.spec returns no-room-requires same_length returns-2 add-requires same-length-2 returns-3)
+    (tie.spec returns no_room_requires same_length returns_2 add_requires same_length_2 returns_3)

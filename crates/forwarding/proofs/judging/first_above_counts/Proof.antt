@@ -2,60 +2,60 @@
 use Prim.Native.Nat.{◌-◌, ◌≤◌, ◌<◌}
 use native.Mathlib.Omega.{arith}
 use borrow.Author.Tests.{lt-ltb, le-ltb}
-use Rattle.answers.proofs.Lowest.{Searched, search-start, search-more, search-hit, search-end}
-use Rattle.tables.proofs.Places.{place-within}
-use Rattle.forwarding.specs.Forwarding.{entriesNow, aboveCounts}
+use Rattle.answers.proofs.Lowest.{Searched, search_start, search_more, search_hit, search_end}
+use Rattle.tables.proofs.Places.{place_within}
+use Rattle.forwarding.specs.Forwarding.{entries_now, above_counts}
 use Rattle.forwarding.proofs.judging.first_above_counts.Statement.{statement}
 use Rattle.forwarding.proofs.judging.first_above_counts.Tie as tie
 
-abbrev invariant-loop : tie.invariant-loop
-invariant-loop running table counts j₀ j = Searched 0 running.ports (aboveCounts running table counts) j
+abbrev invariant_loop : tie.invariant_loop
+invariant_loop running table counts j₀ j = Searched 0 running.ports (above_counts running table counts) j
 
-abbrev decreases-loop : tie.decreases-loop
-decreases-loop running table counts j₀ j = running.ports - j
+abbrev decreases_loop : tie.decreases_loop
+decreases_loop running table counts j₀ j = running.ports - j
 
-loop-holds : tie.Need-loop-init invariant-loop decreases-loop
-loop-holds c = search-start 0 _ _
+loop_holds : tie.Need-loop-init invariant_loop decreases_loop
+loop_holds c = search_start 0 _ _
 
-entry-at-requires : tie.Need-entry-at-requires invariant-loop decreases-loop
-entry-at-requires c κs =
+entry_at_requires : tie.Need-entry-at-requires invariant_loop decreases_loop
+entry_at_requires c κs =
     let b = c.before.before.before.before in
     let r = b.args.running in
-    omega (arith, place-within b.requires.0 c.before.before.loop.j r.position (omega arith) b.requires.1)
+    omega (arith, place_within b.requires.0 c.before.before.loop.j r.position (omega arith) b.requires.1)
 
-returns : tie.Need-returns invariant-loop decreases-loop
+returns : tie.Need-returns invariant_loop decreases_loop
 returns c =
     let a = c.before.before.before.before.before.before.args in
     let l = c.before.before.before.before.loop in
-    let above : a.counts < entriesNow a.running a.table.now l.j = omega (arith, c.before.entry_at.ensures) in
-    search-hit l.invariant (omega arith) (lt-ltb _ _ above)
+    let above : a.counts < entries_now a.running a.table.now l.j = omega (arith, c.before.entry_at.ensures) in
+    search_hit l.invariant (omega arith) (lt-ltb _ _ above)
 
-add-j : tie.Need-overflow-add-j invariant-loop decreases-loop
-add-j c = omega arith
+add_j : tie.Need-overflow-add-j invariant_loop decreases_loop
+add_j c = omega arith
 
-loop-less : tie.Need-loop-smaller invariant-loop decreases-loop
-loop-less c = omega arith
+loop_less : tie.Need-loop-smaller invariant_loop decreases_loop
+loop_less c = omega arith
 
-loop-again : tie.Need-loop-preserved invariant-loop decreases-loop
-loop-again c =
+loop_again : tie.Need-loop-preserved invariant_loop decreases_loop
+loop_again c =
     let a = c.before.before.before.before.before.before.args in
     let l = c.before.before.before.before.loop in
-    let counted : entriesNow a.running a.table.now l.j ≤ a.counts = omega (arith, c.before.entry_at.ensures) in
-    search-more l.invariant (omega arith) (le-ltb _ _ counted)
+    let counted : entries_now a.running a.table.now l.j ≤ a.counts = omega (arith, c.before.entry_at.ensures) in
+    search_more l.invariant (omega arith) (le-ltb _ _ counted)
 
-returns-2 : tie.Need-returns-2 invariant-loop decreases-loop
-returns-2 c = search-end c.before.before.loop.invariant (omega arith)
+returns_2 : tie.Need-returns-2 invariant_loop decreases_loop
+returns_2 c = search_end c.before.before.loop.invariant (omega arith)
 
-pub first-above-counts-spec : {M : Type 1} → statement M
-first-above-counts-spec =
+pub first_above_counts_spec : {M : Type 1} → statement M
+first_above_counts_spec =
     tie.close
     (tie.spec
-    invariant-loop
-    decreases-loop
-    loop-holds
-    entry-at-requires
+    invariant_loop
+    decreases_loop
+    loop_holds
+    entry_at_requires
     returns
-    add-j
-    loop-less
-    loop-again
-    returns-2)
+    add_j
+    loop_less
+    loop_again
+    returns_2)

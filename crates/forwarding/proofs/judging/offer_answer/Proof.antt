@@ -4,29 +4,29 @@ use mathlib.Core.Path.{sym, ◌∙◌}
 use native.Mathlib.Omega.{arith}
 use borrow.Author.Tests.{lt-ltb, le-ltb}
 use lib.ListN.{length}
-use Rattle.answers.specs.Limits.{maxWaiting}
+use Rattle.answers.specs.Limits.{max_waiting}
 use Rattle.answers.proofs.Ranges.{inside}
-use Rattle.forwarding.specs.Forwarding.{waitingOf, offerAnswer}
+use Rattle.forwarding.specs.Forwarding.{waiting_of, offer_answer}
 use borrow.Author.Rules.{rules}
 use Rattle.forwarding.proofs.judging.offer_answer.Statement.{statement}
 use Rattle.forwarding.proofs.judging.offer_answer.Tie as tie
 
-refusal-requires : tie.Need-refusal-requires
-refusal-requires c κs = search rules
+refusal_requires : tie.Need-refusal-requires
+refusal_requires c κs = search rules
 
 returns : tie.Need-returns
-unfolding offerAnswer
+unfolding offer_answer
 returns c = c.refusal.ensures ∙ simp (lt-ltb _ _ c.before.if1.true)
 
-outside-requires : tie.Need-outside-requires
-outside-requires c κs = search rules
+outside_requires : tie.Need-outside-requires
+outside_requires c κs = search rules
 
-refusal-requires-2 : tie.Need-refusal-requires-2
-refusal-requires-2 c κs = search rules
+refusal_requires_2 : tie.Need-refusal-requires-2
+refusal_requires_2 c κs = search rules
 
-returns-2 : tie.Need-returns-2
-unfolding offerAnswer
-returns-2 c =
+returns_2 : tie.Need-returns-2
+unfolding offer_answer
+returns_2 c =
     c.refusal2.ensures
     ∙ simp (le-ltb _ _ c.before.before.before.if1.false, sym c.before.before.outside.ensures ∙ c.before.if2.true)
 
@@ -35,27 +35,27 @@ sub_at c =
     let a = c.before.before.before.before.args in
     omega (arith, inside {low = 1} {high = length a.waiting.now} {x = a.flow} (sym c.before.outside.ensures ∙ c.if2.false))
 
-mul-together : tie.Need-overflow-mul-together
-mul-together c =
+mul_together : tie.Need-overflow-mul-together
+mul_together c =
     let a = c.before.before.before.before.args in
     omega (arith, inside {low = 1} {high = length a.waiting.now} {x = a.flow} (sym c.before.outside.ensures ∙ c.if2.false))
 
-shared-slice-read-together : tie.Need-shared-slice-read-together
-shared-slice-read-together c =
+shared_slice_read_together : tie.Need-shared-slice-read-together
+shared_slice_read_together c =
     let a = c.before.before.before.before.before.args in
     omega (arith, inside {low = 1} {high = length a.waiting.now} {x = a.flow} (sym c.before.before.outside.ensures ∙ c.before.if2.false))
 
-together-requires : tie.Need-together-requires
-together-requires c κs = search rules
+together_requires : tie.Need-together-requires
+together_requires c κs = search rules
 
-refusal-requires-3 : tie.Need-refusal-requires-3
-refusal-requires-3 c κs = search rules
+refusal_requires_3 : tie.Need-refusal-requires-3
+refusal_requires_3 c κs = search rules
 
-returns-3 : tie.Need-returns-3
-unfolding offerAnswer
-returns-3 c =
+returns_3 : tie.Need-returns-3
+unfolding offer_answer
+returns_3 c =
     let a = c.before.before.before.before.before.before.before.before.args in
-    let over : maxWaiting < waitingOf a.waiting.now a.flow + a.n = omega arith in
+    let over : max_waiting < waiting_of a.waiting.now a.flow + a.n = omega arith in
     c.refusal3.ensures
     ∙ simp (
       le-ltb _ _ c.before.before.before.before.before.before.if1.false,
@@ -63,14 +63,14 @@ returns-3 c =
       lt-ltb _ _ over,
     )
 
-done-requires : tie.Need-done-requires
-done-requires c κs = search rules
+done_requires : tie.Need-done-requires
+done_requires c κs = search rules
 
-returns-4 : tie.Need-returns-4
-unfolding offerAnswer
-returns-4 c =
+returns_4 : tie.Need-returns-4
+unfolding offer_answer
+returns_4 c =
     let a = c.before.before.before.before.before.before.before.before.args in
-    let room : waitingOf a.waiting.now a.flow + a.n ≤ maxWaiting = omega arith in
+    let room : waiting_of a.waiting.now a.flow + a.n ≤ max_waiting = omega arith in
     c.done.ensures
     ∙ simp (
       le-ltb _ _ c.before.before.before.before.before.before.if1.false,
@@ -78,20 +78,20 @@ returns-4 c =
       le-ltb _ _ room,
     )
 
-pub offer-answer-spec : {M : Type 1} → statement M
-offer-answer-spec =
+pub offer_answer_spec : {M : Type 1} → statement M
+offer_answer_spec =
     tie.close
     (tie.spec
-    refusal-requires
+    refusal_requires
     returns
-    outside-requires
-    refusal-requires-2
-    returns-2
+    outside_requires
+    refusal_requires_2
+    returns_2
     sub_at
-    mul-together
-    shared-slice-read-together
-    together-requires
-    refusal-requires-3
-    returns-3
-    done-requires
-    returns-4)
+    mul_together
+    shared_slice_read_together
+    together_requires
+    refusal_requires_3
+    returns_3
+    done_requires
+    returns_4)

@@ -4,70 +4,70 @@ use mathlib.Core.Path.{◌∙◌, ap}
 use native.Mathlib.Omega.{arith}
 use lib.IntN.{pos}
 use borrow.Author.Rules.{rules}
-use Rattle.answers.specs.Numbers.{ENTRY-ABOVE-COUNTS}
+use Rattle.answers.specs.Numbers.{ENTRY_ABOVE_COUNTS}
 use Rattle.answers.specs.Answers.{answer}
-use Rattle.forwarding.proofs.AboveCounts.{size-refused, sizes-asked, place-fits, entry-refused, none-refused}
+use Rattle.forwarding.proofs.AboveCounts.{size_refused, sizes_asked, place_fits, entry_refused, none_refused}
 use Rattle.forwarding.proofs.judging.slot_answer.Statement.{statement}
 use Rattle.forwarding.proofs.judging.slot_answer.Tie as tie
 
-slot-size-answer-requires : tie.Need-slot-size-answer-requires
-slot-size-answer-requires c κs = search rules
+slot_size_answer_requires : tie.Need-slot-size-answer-requires
+slot_size_answer_requires c κs = search rules
 
 returns : tie.Need-returns
 returns c =
     let a = c.before.before.before.before.before.args in
-    size-refused a.running a.table.now a.waiting.now a.sent-length c.before.before.slot-size-answer.ensures c.if1.true
+    size_refused a.running a.table.now a.waiting.now a.sent-length c.before.before.slot-size-answer.ensures c.if1.true
 
-first-above-counts-requires : tie.Need-first-above-counts-requires
-first-above-counts-requires c κs =
+first_above_counts_requires : tie.Need-first-above-counts-requires
+first_above_counts_requires c κs =
     let a = c.before.before.before.before.before.args in
-    let asked = sizes-asked a.running a.table.now a.waiting.now a.sent-length c.before.before.slot-size-answer.ensures c.if1.false in
+    let asked = sizes_asked a.running a.table.now a.waiting.now a.sent-length c.before.before.slot-size-answer.ensures c.if1.false in
     (asked.whole, asked.placed)
 
-place-now-requires : tie.Need-place-now-requires
-place-now-requires c κs =
+place_now_requires : tie.Need-place-now-requires
+place_now_requires c κs =
     let b = c.before.before.before in
     let a = b.before.before.before.before.before.args in
-    place-fits a.running a.table.now a.waiting.now a.sent-length b.before.before.slot-size-answer.ensures b.if1.false
+    place_fits a.running a.table.now a.waiting.now a.sent-length b.before.before.slot-size-answer.ensures b.if1.false
     c.before.before.first-above-counts.result c.if2.true
 
-naming-requires : tie.Need-naming-requires
-naming-requires c κs =
+naming_requires : tie.Need-naming-requires
+naming_requires c κs =
     let f = c.before in
     let b = f.before.before.before in
     let a = b.before.before.before.before.before.args in
     omega (
       arith,
       c.place-now.ensures,
-      place-fits a.running a.table.now a.waiting.now a.sent-length b.before.before.slot-size-answer.ensures b.if1.false
+      place_fits a.running a.table.now a.waiting.now a.sent-length b.before.before.slot-size-answer.ensures b.if1.false
           f.before.before.first-above-counts.result f.if2.true,
     )
 
-returns-2 : tie.Need-returns-2
-returns-2 c =
+returns_2 : tie.Need-returns-2
+returns_2 c =
     let f = c.before.before in
     let b = f.before.before.before in
     let a = b.before.before.before.before.before.args in
     c.naming.ensures
-    ∙ ap (λ (p : ℕ). answer ENTRY-ABOVE-COUNTS (pos p)) c.before.place-now.ensures
-    ∙ entry-refused a.running a.table.now a.waiting.now a.sent-length b.before.before.slot-size-answer.ensures b.if1.false
+    ∙ ap (λ (p : ℕ). answer ENTRY_ABOVE_COUNTS (pos p)) c.before.place-now.ensures
+    ∙ entry_refused a.running a.table.now a.waiting.now a.sent-length b.before.before.slot-size-answer.ensures b.if1.false
     f.before.before.first-above-counts.result f.before.before.first-above-counts.ensures f.if2.true
 
-returns-3 : tie.Need-returns-3
-returns-3 c =
+returns_3 : tie.Need-returns-3
+returns_3 c =
     let b = c.before.before.before in
     let a = b.before.before.before.before.before.args in
-    none-refused a.running a.table.now a.waiting.now a.sent-length b.before.before.slot-size-answer.ensures b.if1.false
+    none_refused a.running a.table.now a.waiting.now a.sent-length b.before.before.slot-size-answer.ensures b.if1.false
     c.before.before.first-above-counts.result c.before.before.first-above-counts.ensures c.if2.false
 
-pub slot-answer-spec : {M : Type 1} → statement M
-slot-answer-spec =
+pub slot_answer_spec : {M : Type 1} → statement M
+slot_answer_spec =
     tie.close
     (tie.spec
-    slot-size-answer-requires
+    slot_size_answer_requires
     returns
-    first-above-counts-requires
-    place-now-requires
-    naming-requires
-    returns-2
-    returns-3)
+    first_above_counts_requires
+    place_now_requires
+    naming_requires
+    returns_2
+    returns_3)

@@ -92,15 +92,15 @@ module _ {M : Type 1} {𝓤 : Ura M} (𝓛 : Logic 𝓤) (at_mem : Memory → SP
   Post = (walk_of 𝓛 f.ended stayed (f.clauses 𝓛 at_mem run)).post (((κ, (κ₁, tt)), (q, (q₁, tt)), tt, a, vals), tt)
 
   -- what the core's triple binds outside: the record by value, and the slice's own lifetime, share and name
-  abbrev to-core : (Core 𝓛 at_mem run).Ghost
-  to-core = (((κ₁, tt), (q₁, tt), tt, (h, (m, (n, (y, tt)))), (mach h ∷ [], (vint w64 m ∷ [], (vint w64 n ∷ [], (s ∷ [], tt))))), tt)
+  abbrev to_core : (Core 𝓛 at_mem run).Ghost
+  to_core = (((κ₁, tt), (q₁, tt), tt, (h, (m, (n, (y, tt)))), (mach h ∷ [], (vint w64 m ∷ [], (vint w64 n ∷ [], (s ∷ [], tt))))), tt)
 
   -- what the parameters after the record own
   abbrev rest : Fml
   rest = owns (usize ∷ usize ∷ MutSlice (named 1) κ₁ u16 ∷ []) (m, (n, (y, tt))) vals.1
 
-  goes-core : Is T.the_row h (mach h ∷ []) → ent 𝓤 (sep 𝓤 (sep 𝓤 (A.lft κ₁ q₁) (sem 𝓛 ftrue)) (sem 𝓛 rest)) ((Core 𝓛 at_mem run).pre to-core)
-  goes-core was =
+  goes_core : Is T.the_row h (mach h ∷ []) → ent 𝓤 (sep 𝓤 (sep 𝓤 (A.lft κ₁ q₁) (sem 𝓛 ftrue)) (sem 𝓛 rest)) ((Core 𝓛 at_mem run).pre to_core)
+  goes_core was =
       qed 𝓛 ((‵ (flft κ₁ q₁) ⊛ ‵ ftrue) ∷ ‵ rest ∷ []) ∵ move ! (1 ∷ 0 ∷ []) $
       owned ! T.the_row (Is T.the_row) ((LL.makes T.the_type T'.the_plain) 𝓛) h _ was $ fjoin ! $ move ! (1 ∷ 0 ∷ []) $ join ! $ frame ! $ done !
 
@@ -129,8 +129,8 @@ module _ {M : Type 1} {𝓤 : Ura M} (𝓛 : Logic 𝓤) (at_mem : Memory → SP
         assigns ! (of_opd ! (load ! (from ! (hop ! (look ! 19 refl) (stop !))) (look_raw ! 0 refl))) (from ! (stop !)) (init ! 9 refl ((LL.lawful T.the_type T'.the_laws 𝓛).typed h _ was).0) $
         assigns ! (addr ! (from ! (fld ! refl (hop ! (look_in ! 13 (sub ! 0 refl (whole !))) (stop !))))) (from ! (stop !)) (init ! 7 refl (tt, tt)) $
         assigns ! (agg ! (and_then ! (load ! (from ! (stop !)) (look ! 7 refl)) (and_then ! (load ! (from ! (fld ! refl (stop !))) (look_in ! 13 (sub ! 1 refl (whole !)))) (no_more !)))) (from ! (stop !)) (init ! 5 refl (tt, (tt, (record { fits = room.0 }, tt)))) $
-        move ! (23 ∷ 24 ∷ []) $ use2 𝓛 (raw ((Core 𝓛 at_mem run).pre to-core)) (goes-core was) $
-        calls_at ! fm (Core 𝓛 at_mem run) known to-core (and_then ! (load ! (from ! (stop !)) (look ! 10 refl)) (and_then ! (load ! (from ! (stop !)) (look ! 18 refl)) (and_then ! (load ! (from ! (stop !)) (look ! 16 refl)) (and_then ! (load ! (from ! (stop !)) (look ! 6 refl)) (no_more !))))) (λ v.
+        move ! (23 ∷ 24 ∷ []) $ use2 𝓛 (raw ((Core 𝓛 at_mem run).pre to_core)) (goes_core was) $
+        calls_at ! fm (Core 𝓛 at_mem run) known to_core (and_then ! (load ! (from ! (stop !)) (look ! 10 refl)) (and_then ! (load ! (from ! (stop !)) (look ! 18 refl)) (and_then ! (load ! (from ! (stop !)) (look ! 16 refl)) (and_then ! (load ! (from ! (stop !)) (look ! 6 refl)) (no_more !))))) (λ v.
         use1 𝓛 (later (some (λ (r : Outcome). ((‵ (flft κ₁ q₁) ⊛ ‵ ftrue) ⊛ ‵ ((O.the_row).own_val r (v ∷ []))) ⊛ raw (ensured 𝓛 core.ended (core.clauses 𝓛 at_mem run) (κ₁, tt) (h, (m, (n, (y, tt)))) tt r)))) (id⊢ 𝓤 _) $ await ! tt $ pick ! (λ r.
         -- what the core ensures, at some last counts
         split ! $ move ! (1 ∷ []) $ use1 𝓛 (some (λ (zs : Unit {0} × (Unit {0} × (Unit {0} × (List ℕ × Unit {0})))). ‵ (lasts core.ended (κ₁, tt) (h, (m, (n, (y, tt)))) zs) ⊛ raw (fact 𝓤 (FreshStarted h m n ws r zs.1.1.1.0)))) (id⊢ 𝓤 _) $ pick ! (λ zs.
@@ -151,9 +151,9 @@ module _ {M : Type 1} {𝓤 : Ura M} (𝓛 : Logic 𝓤) (at_mem : Memory → SP
 module _ {M : Type 1} {𝓤 : Ura M} (𝓛 : Logic 𝓤) (at_mem : Memory → SProp 𝓤) (run : Routine → Fun 𝓤) where
   open 𝓛 use {H}
 
-  fresh-start-in-walks : (C : Calls 𝓤 H) (Λ : Loops 𝓤 H) → FmC 𝓤 H 𝓛.laws C → Triple 𝓤 (C #forwarding·fresh-start) (Core 𝓛 at_mem run)
+  fresh_start_in_walks : (C : Calls 𝓤 H) (Λ : Loops 𝓤 H) → FmC 𝓤 H 𝓛.laws C → Triple 𝓤 (C #forwarding·fresh-start) (Core 𝓛 at_mem run)
       → Walks 𝓛 f.ended stayed (WpFn 𝓤 H C Λ code.function) (f.clauses 𝓛 at_mem run)
-  fresh-start-in-walks C Λ fm known = walked 𝓛 f.ended stayed (f.clauses 𝓛 at_mem run) (WpFn 𝓤 H C Λ code.function)
+  fresh_start_in_walks C Λ fm known = walked 𝓛 f.ended stayed (f.clauses 𝓛 at_mem run) (WpFn 𝓤 H C Λ code.function)
       (λ κs. (mut_vals, (uint_vals w64, (uint_vals w64, (mut_slice_vals, tt))))) (λ κs. (mut_Tells (named 0) κs.0 T.the_row, (uint_Tells w64, (uint_Tells w64, (mut_slice_Tells (named 1) κs.1.0 u16, tt)))))
       (λ κs qs bounds a _ are. via 𝓤 _ (fst∗ 𝓤 _ (emp 𝓤)) (walk 𝓛 at_mem run κs.0 κs.1.0 qs.0 qs.1.0 a.0.ref_ptr.0 a.0.ref_ptr.1 a.0.ghost_name a.0.now a.1.0 a.1.1.0
       a.1.1.1.0.ref_ptr.0 a.1.1.1.0.ref_ptr.1 a.1.1.1.0.ghost_name a.1.1.1.0.now are.1.0.1 are.1.1.0.1 C Λ fm known are.1.1.1.0.0.1))
@@ -167,16 +167,16 @@ module _ {M : Type 1} {𝓤 : Ura M} (𝓛 : Logic 𝓤) (at_mem : Memory → SP
     ),
   )
 
-fresh-start-in-meets : {M : Type 1} {𝓤 : Ura M} (𝓛 : Logic 𝓤) → (at_mem : Memory → SProp 𝓤) (run : Routine → Fun 𝓤) (𝓣 : Tables 𝓤 𝓛.H)
+fresh_start_in_meets : {M : Type 1} {𝓤 : Ura M} (𝓛 : Logic 𝓤) → (at_mem : Memory → SProp 𝓤) (run : Routine → Fun 𝓤) (𝓣 : Tables 𝓤 𝓛.H)
     → Triple 𝓤 (𝓣.C #forwarding·fresh-start) (Core 𝓛 at_mem run) → Meets 𝓛 f.signature (WpFn 𝓤 𝓛.H 𝓣.C 𝓣.Λ code.function) (f.spec 𝓛 at_mem run)
-fresh-start-in-meets {𝓤 = 𝓤} 𝓛 at_mem run 𝓣 known =
+fresh_start_in_meets {𝓤 = 𝓤} 𝓛 at_mem run 𝓣 known =
     walk_Meets 𝓛 f.ended stayed (goes 𝓛 at_mem run) (f.clauses 𝓛 at_mem run) (WpFn 𝓤 𝓛.H 𝓣.C 𝓣.Λ code.function) (WpFn-mono 𝓤 𝓛.H 𝓛.laws 𝓣 code.function)
-    (fresh-start-in-walks 𝓛 at_mem run 𝓣.C 𝓣.Λ (fm_of 𝓤 𝓛.H 𝓛.laws 𝓣) known)
+    (fresh_start_in_walks 𝓛 at_mem run 𝓣.C 𝓣.Λ (fm_of 𝓤 𝓛.H 𝓛.laws 𝓣) known)
 
-pub fresh-start-in-spec : {M : Type 1} → stated.statement M
+pub fresh_start_in_spec : {M : Type 1} → stated.statement M
 unfolding code.routine tables_of
-fresh-start-in-spec 𝓤 𝓛 𝓜 𝓡 =
+fresh_start_in_spec 𝓤 𝓛 𝓜 𝓡 =
     entered 𝓤 𝓛.H (triple_of 𝓛 f.signature (f.spec 𝓛 𝓜.mem 𝓡.run))
     (tables 𝓤 𝓛.H 𝓜 𝓡 code.env).C (tables 𝓤 𝓛.H 𝓜 𝓡 code.env).Λ #forwarding·record·fresh-start-in code.function (code.unfolded 𝓤 𝓛.H 𝓜 𝓡)
-    (fresh-start-in-meets 𝓛 𝓜.mem 𝓡.run (tables_of 𝓤 𝓛.H 𝓜 (tables 𝓤 𝓛.H 𝓜 𝓡 code.env))
+    (fresh_start_in_meets 𝓛 𝓜.mem 𝓡.run (tables_of 𝓤 𝓛.H 𝓜 (tables 𝓤 𝓛.H 𝓜 𝓡 code.env))
     (cited 𝓤 𝓛.H (Core 𝓛 𝓜.mem 𝓡.run) 𝓜 𝓡 code.env #forwarding·fresh-start core-def.routine code.calls-forwarding::fresh-start (core-thm.met 𝓤 𝓛 𝓜 𝓡)))

@@ -89,8 +89,8 @@ module _ {M : Type 1} {𝓤 : Ura M} (𝓛 : Logic 𝓤) (at_mem : Memory → SP
   Post = (walk_of 𝓛 f.ended stayed (f.clauses 𝓛 at_mem run)).post (((κ, (κ₁, (κ₂, (κ₃, tt)))), (q, (q₁, (q₂, (q₃, tt)))), tt, a, vals), tt)
 
   -- what the core's triple binds outside: the record by value, and the slices' own lifetimes, shares and names
-  abbrev to-core : (Core 𝓛 at_mem run).Ghost
-  to-core = (((κ₁, (κ₂, (κ₃, tt))), (q₁, (q₂, (q₃, tt))), tt, (h, a.1), (mach h ∷ [], vals.1)), tt)
+  abbrev to_core : (Core 𝓛 at_mem run).Ghost
+  to_core = (((κ₁, (κ₂, (κ₃, tt))), (q₁, (q₂, (q₃, tt))), tt, (h, a.1), (mach h ∷ [], vals.1)), tt)
 
   -- what each of the parameters after the record owns, and all of them
   abbrev own₁ : Fml
@@ -103,8 +103,8 @@ module _ {M : Type 1} {𝓤 : Ura M} (𝓛 : Logic 𝓤) (at_mem : Memory → SP
   abbrev live : SProp 𝓤
   live = sep 𝓤 (A.lft κ₁ q₁) (sep 𝓤 (A.lft κ₂ q₂) (sep 𝓤 (A.lft κ₃ q₃) (sem 𝓛 ftrue)))
 
-  goes-core : Is T.the_row h (mach h ∷ []) → ent 𝓤 (sep 𝓤 live (sem 𝓛 rest)) ((Core 𝓛 at_mem run).pre to-core)
-  goes-core was =
+  goes_core : Is T.the_row h (mach h ∷ []) → ent 𝓤 (sep 𝓤 live (sem 𝓛 rest)) ((Core 𝓛 at_mem run).pre to_core)
+  goes_core was =
       qed 𝓛 ((‵ (flft κ₁ q₁) ⊛ (‵ (flft κ₂ q₂) ⊛ (‵ (flft κ₃ q₃) ⊛ ‵ ftrue))) ∷ ‵ rest ∷ []) ∵ move ! (1 ∷ 0 ∷ []) $
       owned ! T.the_row (Is T.the_row) ((LL.makes T.the_type T'.the_plain) 𝓛) h _ was $ fjoin ! $ move ! (1 ∷ 0 ∷ []) $ join ! $ frame ! $ done !
 
@@ -141,8 +141,8 @@ module _ {M : Type 1} {𝓤 : Ura M} (𝓛 : Logic 𝓤) (at_mem : Memory → SP
         assigns ! (agg ! (and_then ! (load ! (from ! (stop !)) (look ! 11 refl)) (and_then ! (load ! (from ! (fld ! refl (stop !))) (look_in ! 19 (sub ! 1 refl (whole !)))) (no_more !)))) (from ! (stop !)) (init ! 9 refl (tt, (tt, (record { fits = room₂.0 }, tt)))) $
         assigns ! (addr ! (from ! (fld ! refl (hop ! (look_in ! 17 (sub ! 0 refl (whole !))) (stop !))))) (from ! (stop !)) (init ! 7 refl (tt, tt)) $
         assigns ! (agg ! (and_then ! (load ! (from ! (stop !)) (look ! 7 refl)) (and_then ! (load ! (from ! (fld ! refl (stop !))) (look_in ! 17 (sub ! 1 refl (whole !)))) (no_more !)))) (from ! (stop !)) (init ! 5 refl (tt, (tt, (record { fits = room₃.0 }, tt)))) $
-        move ! (27 ∷ 28 ∷ []) $ use2 𝓛 (raw ((Core 𝓛 at_mem run).pre to-core)) (goes-core was) $
-        calls_at ! fm (Core 𝓛 at_mem run) known to-core (and_then ! (load ! (from ! (stop !)) (look ! 14 refl)) (and_then ! (load ! (from ! (stop !)) (look ! 22 refl)) (and_then ! (load ! (from ! (stop !)) (look ! 10 refl)) (and_then ! (load ! (from ! (stop !)) (look ! 6 refl)) (no_more !))))) (λ v.
+        move ! (27 ∷ 28 ∷ []) $ use2 𝓛 (raw ((Core 𝓛 at_mem run).pre to_core)) (goes_core was) $
+        calls_at ! fm (Core 𝓛 at_mem run) known to_core (and_then ! (load ! (from ! (stop !)) (look ! 14 refl)) (and_then ! (load ! (from ! (stop !)) (look ! 22 refl)) (and_then ! (load ! (from ! (stop !)) (look ! 10 refl)) (and_then ! (load ! (from ! (stop !)) (look ! 6 refl)) (no_more !))))) (λ v.
         use1 𝓛 (later (some (λ (r : Outcome). ((‵ (flft κ₁ q₁) ⊛ (‵ (flft κ₂ q₂) ⊛ (‵ (flft κ₃ q₃) ⊛ ‵ ftrue))) ⊛ ‵ ((O.the_row).own_val r (v ∷ []))) ⊛ raw (ensured 𝓛 core.ended (core.clauses 𝓛 at_mem run) (κ₁, (κ₂, (κ₃, tt))) (h, a.1) tt r)))) (id⊢ 𝓤 _) $ await ! tt $ pick ! (λ r.
         -- what the core ensures, at some last counts and some last sent buffer
         split ! $ move ! (1 ∷ []) $ use1 𝓛 (some (λ (zs : Unit {0} × (Unit {0} × (List ℕ × (List ℕ × Unit {0})))). ‵ (lasts core.ended (κ₁, (κ₂, (κ₃, tt))) (h, a.1) zs) ⊛ raw (fact 𝓤 (Promise r zs.1.1.0 zs.1.1.1.0)))) (id⊢ 𝓤 _) $ pick ! (λ zs.
@@ -164,9 +164,9 @@ module _ {M : Type 1} {𝓤 : Ura M} (𝓛 : Logic 𝓤) (at_mem : Memory → SP
 module _ {M : Type 1} {𝓤 : Ura M} (𝓛 : Logic 𝓤) (at_mem : Memory → SProp 𝓤) (run : Routine → Fun 𝓤) where
   open 𝓛 use {H}
 
-  slot-in-walks : (C : Calls 𝓤 H) (Λ : Loops 𝓤 H) → FmC 𝓤 H 𝓛.laws C → Triple 𝓤 (C #forwarding·slot) (Core 𝓛 at_mem run)
+  slot_in_walks : (C : Calls 𝓤 H) (Λ : Loops 𝓤 H) → FmC 𝓤 H 𝓛.laws C → Triple 𝓤 (C #forwarding·slot) (Core 𝓛 at_mem run)
       → Walks 𝓛 f.ended stayed (WpFn 𝓤 H C Λ code.function) (f.clauses 𝓛 at_mem run)
-  slot-in-walks C Λ fm known = walked 𝓛 f.ended stayed (f.clauses 𝓛 at_mem run) (WpFn 𝓤 H C Λ code.function)
+  slot_in_walks C Λ fm known = walked 𝓛 f.ended stayed (f.clauses 𝓛 at_mem run) (WpFn 𝓤 H C Λ code.function)
       (λ κs. (shr_vals, (shr_slice_vals, (shr_slice_vals, (shr_slice_vals, tt)))))
       (λ κs. (mut_Tells (named 0) κs.0 T.the_row, (shr_slice_Tells (named 1) κs.1.0 u8, (mut_slice_Tells (named 2) κs.1.1.0 u16, (mut_slice_Tells (named 3) κs.1.1.1.0 u8, tt)))))
       (λ κs qs bounds a _ are. via 𝓤 _ (fst∗ 𝓤 _ (emp 𝓤)) (walk 𝓛 at_mem run κs.0 κs.1.0 κs.1.1.0 κs.1.1.1.0 qs.0 qs.1.0 qs.1.1.0 qs.1.1.1.0 a.0.ref_ptr.0 a.0.ref_ptr.1 a.0.ghost_name a.0.now
@@ -181,16 +181,16 @@ module _ {M : Type 1} {𝓤 : Ura M} (𝓛 : Logic 𝓤) (at_mem : Memory → SP
     ),
   )
 
-slot-in-meets : {M : Type 1} {𝓤 : Ura M} (𝓛 : Logic 𝓤) → (at_mem : Memory → SProp 𝓤) (run : Routine → Fun 𝓤) (𝓣 : Tables 𝓤 𝓛.H)
+slot_in_meets : {M : Type 1} {𝓤 : Ura M} (𝓛 : Logic 𝓤) → (at_mem : Memory → SProp 𝓤) (run : Routine → Fun 𝓤) (𝓣 : Tables 𝓤 𝓛.H)
     → Triple 𝓤 (𝓣.C #forwarding·slot) (Core 𝓛 at_mem run) → Meets 𝓛 f.signature (WpFn 𝓤 𝓛.H 𝓣.C 𝓣.Λ code.function) (f.spec 𝓛 at_mem run)
-slot-in-meets {𝓤 = 𝓤} 𝓛 at_mem run 𝓣 known =
+slot_in_meets {𝓤 = 𝓤} 𝓛 at_mem run 𝓣 known =
     walk_Meets 𝓛 f.ended stayed (goes 𝓛 at_mem run) (f.clauses 𝓛 at_mem run) (WpFn 𝓤 𝓛.H 𝓣.C 𝓣.Λ code.function) (WpFn-mono 𝓤 𝓛.H 𝓛.laws 𝓣 code.function)
-    (slot-in-walks 𝓛 at_mem run 𝓣.C 𝓣.Λ (fm_of 𝓤 𝓛.H 𝓛.laws 𝓣) known)
+    (slot_in_walks 𝓛 at_mem run 𝓣.C 𝓣.Λ (fm_of 𝓤 𝓛.H 𝓛.laws 𝓣) known)
 
-pub slot-in-spec : {M : Type 1} → stated.statement M
+pub slot_in_spec : {M : Type 1} → stated.statement M
 unfolding code.routine tables_of
-slot-in-spec 𝓤 𝓛 𝓜 𝓡 =
+slot_in_spec 𝓤 𝓛 𝓜 𝓡 =
     entered 𝓤 𝓛.H (triple_of 𝓛 f.signature (f.spec 𝓛 𝓜.mem 𝓡.run))
     (tables 𝓤 𝓛.H 𝓜 𝓡 code.env).C (tables 𝓤 𝓛.H 𝓜 𝓡 code.env).Λ #forwarding·record·slot-in code.function (code.unfolded 𝓤 𝓛.H 𝓜 𝓡)
-    (slot-in-meets 𝓛 𝓜.mem 𝓡.run (tables_of 𝓤 𝓛.H 𝓜 (tables 𝓤 𝓛.H 𝓜 𝓡 code.env))
+    (slot_in_meets 𝓛 𝓜.mem 𝓡.run (tables_of 𝓤 𝓛.H 𝓜 (tables 𝓤 𝓛.H 𝓜 𝓡 code.env))
     (cited 𝓤 𝓛.H (Core 𝓛 𝓜.mem 𝓡.run) 𝓜 𝓡 code.env #forwarding·slot core-def.routine code.calls-forwarding::slot (core-thm.met 𝓤 𝓛 𝓜 𝓡)))

@@ -4,14 +4,14 @@ use borrow.Author.Rules.{rules}
 use Rattle.forwarding.proofs.serving.advance.Statement.{statement}
 use Rattle.forwarding.proofs.serving.advance.Tie as tie
 
-add-next : tie.Need-overflow-add-next
-add-next c = search rules
+add_next : tie.Need-overflow-add-next
+add_next c = search rules
 
 returns : tie.Need-returns
 returns c = simp (eq-eqb _ _ c.if1.true)
 
-returns-2 : tie.Need-returns-2
-returns-2 c = simp (ne_eqb _ _ c.if1.false)
+returns_2 : tie.Need-returns-2
+returns_2 c = simp (ne_eqb _ _ c.if1.false)
 
-pub advance-spec : {M : Type 1} → statement M
-advance-spec = tie.close (tie.spec add-next returns returns-2)
+pub advance_spec : {M : Type 1} → statement M
+advance_spec = tie.close (tie.spec add_next returns returns_2)

@@ -10,29 +10,29 @@ use lib.Seq.{drop-length}
 use Rattle.forwarding.proofs.serving.clear.Statement.{statement}
 use Rattle.forwarding.proofs.serving.clear.Tie as tie
 
-abbrev invariant-loop : tie.invariant-loop
-invariant-loop waiting₀ i₀ waiting i = (i ≤ length waiting₀) × ((length waiting ≡ length waiting₀) × (waiting ≡ replicate {A = ℕ} i 0 ++ drop i waiting₀))
+abbrev invariant_loop : tie.invariant_loop
+invariant_loop waiting₀ i₀ waiting i = (i ≤ length waiting₀) × ((length waiting ≡ length waiting₀) × (waiting ≡ replicate {A = ℕ} i 0 ++ drop i waiting₀))
 
-abbrev decreases-loop : tie.decreases-loop
-decreases-loop waiting₀ i₀ waiting i = length waiting₀ - i
+abbrev decreases_loop : tie.decreases_loop
+decreases_loop waiting₀ i₀ waiting i = length waiting₀ - i
 
-loop-holds : tie.Need-loop-init invariant-loop decreases-loop
-loop-holds c = (omega arith, (refl, fill_none _ 0))
+loop_holds : tie.Need-loop-init invariant_loop decreases_loop
+loop_holds c = (omega arith, (refl, fill_none _ 0))
 
-mul-waiting : tie.Need-overflow-mul-waiting invariant-loop decreases-loop
-mul-waiting c = search rules
+mul_waiting : tie.Need-overflow-mul-waiting invariant_loop decreases_loop
+mul_waiting c = search rules
 
-slice-write-waiting : tie.Need-slice-write-waiting invariant-loop decreases-loop
-slice-write-waiting c = search rules
+slice_write_waiting : tie.Need-slice-write-waiting invariant_loop decreases_loop
+slice_write_waiting c = search rules
 
-add-i : tie.Need-overflow-add-i invariant-loop decreases-loop
-add-i c = search rules
+add_i : tie.Need-overflow-add-i invariant_loop decreases_loop
+add_i c = search rules
 
-loop-less : tie.Need-loop-smaller invariant-loop decreases-loop
-loop-less c = omega arith
+loop_less : tie.Need-loop-smaller invariant_loop decreases_loop
+loop_less c = omega arith
 
-loop-again : tie.Need-loop-preserved invariant-loop decreases-loop
-loop-again c =
+loop_again : tie.Need-loop-preserved invariant_loop decreases_loop
+loop_again c =
     let before = c.before.loop.invariant in (
       omega arith,
       (
@@ -42,10 +42,10 @@ loop-again c =
       ),
     )
 
-same_length : tie.Need-same-length invariant-loop decreases-loop
+same_length : tie.Need-same-length invariant_loop decreases_loop
 same_length c = c.before.loop.invariant.1.0
 
-returns : tie.Need-returns invariant-loop decreases-loop
+returns : tie.Need-returns invariant_loop decreases_loop
 returns c =
     let W = c.before.before.args.waiting.now in
     let all : c.before.loop.i ≡ length W = omega arith in
@@ -55,13 +55,13 @@ pub clear_spec : {M : Type 1} → statement M
 clear_spec =
     tie.close
     (tie.spec
-    invariant-loop
-    decreases-loop
-    loop-holds
-    mul-waiting
-    slice-write-waiting
-    add-i
-    loop-less
-    loop-again
+    invariant_loop
+    decreases_loop
+    loop_holds
+    mul_waiting
+    slice_write_waiting
+    add_i
+    loop_less
+    loop_again
     same_length
     returns)

@@ -6,15 +6,15 @@ use mathlib.Core.List.{List}
 use native.Mathlib.Omega.{arith}
 use borrow.Author.Tests.{lt-ltb}
 use lib.ListN.{length}
-use Rattle.answers.proofs.Ranges.{within-test}
-use Rattle.forwarding.specs.Forwarding.{waitingOf, unknown}
+use Rattle.answers.proofs.Ranges.{within_test}
+use Rattle.forwarding.specs.Forwarding.{waiting_of, unknown}
 use borrow.Author.Rules.{rules}
 use Rattle.forwarding.proofs.serving.send_cell.Statement.{statement}
 use Rattle.forwarding.proofs.serving.send_cell.Tie as tie
 
 -- an entry that is not 0 and not above the number of counts has one
 counted : (e : ℕ) (W : List ℕ) → 0 < e → e ≤ length W → unknown W e ≡ false
-counted e W some l = within-test (record { at_least = some; at_most = l })
+counted e W some l = within_test (record { at_least = some; at_most = l })
 
 returns : tie.Need-returns
 returns c = (simp c.if1.true, simp c.if1.true)
@@ -22,48 +22,48 @@ returns c = (simp c.if1.true, simp c.if1.true)
 sub_at : tie.Need-overflow-sub-at
 sub_at c = search rules
 
-mul-cells : tie.Need-overflow-mul-cells
-mul-cells c = search rules
+mul_cells : tie.Need-overflow-mul-cells
+mul_cells c = search rules
 
-slice-read-cells : tie.Need-slice-read-cells
-slice-read-cells c = search rules
+slice_read_cells : tie.Need-slice-read-cells
+slice_read_cells c = search rules
 
-returns-2 : tie.Need-returns-2
-returns-2 c =
+returns_2 : tie.Need-returns-2
+returns_2 c =
     let b = c.before.before.before in
     let there = counted b.args.entry b.args.waiting.now (omega arith) b.requires in
     (simp (there, c.if2.true), simp (there, c.if2.true))
 
-sub-waiting : tie.Need-overflow-sub-waiting
-sub-waiting c = search rules
+sub_waiting : tie.Need-overflow-sub-waiting
+sub_waiting c = search rules
 
-mul-waiting : tie.Need-overflow-mul-waiting
-mul-waiting c = search rules
+mul_waiting : tie.Need-overflow-mul-waiting
+mul_waiting c = search rules
 
-slice-write-waiting : tie.Need-slice-write-waiting
-slice-write-waiting c = search rules
+slice_write_waiting : tie.Need-slice-write-waiting
+slice_write_waiting c = search rules
 
 same_length : tie.Need-same-length
 same_length c = search rules
 
-returns-3 : tie.Need-returns-3
-returns-3 c =
+returns_3 : tie.Need-returns-3
+returns_3 c =
     let a = c.before.before.before.args in
     let there = counted a.entry a.waiting.now (omega arith) c.before.before.before.requires in
-    let waits : 0 < waitingOf a.waiting.now a.entry = omega arith in
+    let waits : 0 < waiting_of a.waiting.now a.entry = omega arith in
     (simp (there, lt-ltb 0 _ waits), simp (there, lt-ltb 0 _ waits))
 
-pub send-cell-spec : {M : Type 1} → statement M
-send-cell-spec =
+pub send_cell_spec : {M : Type 1} → statement M
+send_cell_spec =
     tie.close
     (tie.spec
     returns
     sub_at
-    mul-cells
-    slice-read-cells
-    returns-2
-    sub-waiting
-    mul-waiting
-    slice-write-waiting
+    mul_cells
+    slice_read_cells
+    returns_2
+    sub_waiting
+    mul_waiting
+    slice_write_waiting
     same_length
-    returns-3)
+    returns_3)

@@ -5,13 +5,13 @@ use Rattle.plan_text.proofs.Putting.{put_then}
 use Rattle.plan_text.proofs.lines.put_after_comma.Statement.{statement}
 use Rattle.plan_text.proofs.lines.put_after_comma.Tie as tie
 
-put-byte-requires : tie.Need-put-byte-requires
-put-byte-requires c κs = search rules
+put_byte_requires : tie.Need-put-byte-requires
+put_byte_requires c κs = search rules
 
-put-number-requires : tie.Need-put-number-requires
-put-number-requires c κs =
+put_number_requires : tie.Need-put-number-requires
+put_number_requires c κs =
     let b = c.before.before.before in
-    omega (arith, b.before.before.before.requires, b.put_byte.ensures.next-is, b.put_byte.auto.0)
+    omega (arith, b.before.before.before.requires, b.put_byte.ensures.next_is, b.put_byte.auto.0)
 
 same_length : tie.Need-same-length
 same_length c = search rules
@@ -19,6 +19,6 @@ same_length c = search rules
 returns : tie.Need-returns
 returns c = let n = c.before.before in put_then n.before.before.before.before.put_byte.ensures n.put-number.ensures
 
-pub put-after-comma-spec : {M : Type 1} → statement M
-put-after-comma-spec =
-    tie.close (tie.spec put-byte-requires put-number-requires same_length returns)
+pub put_after_comma_spec : {M : Type 1} → statement M
+put_after_comma_spec =
+    tie.close (tie.spec put_byte_requires put_number_requires same_length returns)

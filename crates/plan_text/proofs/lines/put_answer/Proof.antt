@@ -1,5 +1,5 @@
 -- `plan_text::lines::put_answer` meets its contract.
-use Rattle.plan_text.proofs.RowLines.{answer-is, answer-length}
+use Rattle.plan_text.proofs.RowLines.{answer_is, answer-length}
 use Rattle.plan_text.proofs.Putting.{put_then, put_as}
 use Rattle.plan_text.specs.Lines.{signed}
 use mir.ValLaws.{to_z-of_z}
@@ -12,79 +12,79 @@ use borrow.Author.Rules.{rules}
 use Rattle.plan_text.proofs.lines.put_answer.Statement.{statement}
 use Rattle.plan_text.proofs.lines.put_answer.Tie as tie
 
-slice-aggregate-put-bytes : tie.Need-slice-aggregate-put-bytes
-slice-aggregate-put-bytes c = search rules
+slice_aggregate_put_bytes : tie.Need-slice-aggregate-put-bytes
+slice_aggregate_put_bytes c = search rules
 
-put-bytes-requires : tie.Need-put-bytes-requires
-put-bytes-requires c κs = search rules
+put_bytes_requires : tie.Need-put-bytes-requires
+put_bytes_requires c κs = search rules
 
-put-number-requires : tie.Need-put-number-requires
-put-number-requires c κs =
-    let at-put-bytes = c.before.before.before in
-    let start = at-put-bytes.before.before.before.before in
+put_number_requires : tie.Need-put-number-requires
+put_number_requires c κs =
+    let at_put_bytes = c.before.before.before in
+    let start = at_put_bytes.before.before.before.before in
     omega (
       arith,
       answer-length start.args.number start.args.detail,
       start.requires,
-      at-put-bytes.put-bytes.ensures.next-is,
-      at-put-bytes.put-bytes.auto.0,
+      at_put_bytes.put-bytes.ensures.next_is,
+      at_put_bytes.put-bytes.auto.0,
     )
 
-put-byte-requires : tie.Need-put-byte-requires
-put-byte-requires c κs =
-    let at-put-number = c.before.before.before in
-    let at-put-bytes = at-put-number.before.before.before.before in
-    let start = at-put-bytes.before.before.before.before in
+put_byte_requires : tie.Need-put-byte-requires
+put_byte_requires c κs =
+    let at_put_number = c.before.before.before in
+    let at_put_bytes = at_put_number.before.before.before.before in
+    let start = at_put_bytes.before.before.before.before in
     omega (
       arith,
       answer-length start.args.number start.args.detail,
       start.requires,
-      at-put-bytes.put-bytes.ensures.next-is,
-      at-put-bytes.put-bytes.auto.0,
-      at-put-number.put-number.ensures.next-is,
-      at-put-number.put-number.auto.0,
+      at_put_bytes.put-bytes.ensures.next_is,
+      at_put_bytes.put-bytes.auto.0,
+      at_put_number.put-number.ensures.next_is,
+      at_put_number.put-number.auto.0,
     )
 
-put-signed-requires : tie.Need-put-signed-requires
-put-signed-requires c κs =
-    let at-put-byte = c.before.before.before in
-    let at-put-number = at-put-byte.before.before.before.before in
-    let at-put-bytes = at-put-number.before.before.before.before in
-    let start = at-put-bytes.before.before.before.before in
+put_signed_requires : tie.Need-put-signed-requires
+put_signed_requires c κs =
+    let at_put_byte = c.before.before.before in
+    let at_put_number = at_put_byte.before.before.before.before in
+    let at_put_bytes = at_put_number.before.before.before.before in
+    let start = at_put_bytes.before.before.before.before in
     let a = start.args in
     omega (
       arith,
       answer-length a.number a.detail,
       start.requires,
-      at-put-bytes.put-bytes.ensures.next-is,
-      at-put-bytes.put-bytes.auto.0,
-      at-put-number.put-number.ensures.next-is,
-      at-put-number.put-number.auto.0,
-      at-put-byte.put_byte.ensures.next-is,
-      at-put-byte.put_byte.auto.0,
+      at_put_bytes.put-bytes.ensures.next_is,
+      at_put_bytes.put-bytes.auto.0,
+      at_put_number.put-number.ensures.next_is,
+      at_put_number.put-number.auto.0,
+      at_put_byte.put_byte.ensures.next_is,
+      at_put_byte.put_byte.auto.0,
       ap (λ (z : ℤ). length (signed z)) (to_z-of_z w32 a.detail start.ranges.detail),
     )
 
-put-byte-requires-2 : tie.Need-put-byte-requires-2
-put-byte-requires-2 c κs =
-    let at-put-signed = c.before.before.before in
-    let at-put-byte = at-put-signed.before.before.before.before in
-    let at-put-number = at-put-byte.before.before.before.before in
-    let at-put-bytes = at-put-number.before.before.before.before in
-    let start = at-put-bytes.before.before.before.before in
+put_byte_requires_2 : tie.Need-put-byte-requires-2
+put_byte_requires_2 c κs =
+    let at_put_signed = c.before.before.before in
+    let at_put_byte = at_put_signed.before.before.before.before in
+    let at_put_number = at_put_byte.before.before.before.before in
+    let at_put_bytes = at_put_number.before.before.before.before in
+    let start = at_put_bytes.before.before.before.before in
     let a = start.args in
     omega (
       arith,
       answer-length a.number a.detail,
       start.requires,
-      at-put-bytes.put-bytes.ensures.next-is,
-      at-put-bytes.put-bytes.auto.0,
-      at-put-number.put-number.ensures.next-is,
-      at-put-number.put-number.auto.0,
-      at-put-byte.put_byte.ensures.next-is,
-      at-put-byte.put_byte.auto.0,
-      at-put-signed.put-signed.ensures.next-is,
-      at-put-signed.put-signed.auto.0,
+      at_put_bytes.put-bytes.ensures.next_is,
+      at_put_bytes.put-bytes.auto.0,
+      at_put_number.put-number.ensures.next_is,
+      at_put_number.put-number.auto.0,
+      at_put_byte.put_byte.ensures.next_is,
+      at_put_byte.put_byte.auto.0,
+      at_put_signed.put-signed.ensures.next_is,
+      at_put_signed.put-signed.auto.0,
       ap (λ (z : ℤ). length (signed z)) (to_z-of_z w32 a.detail start.ranges.detail),
     )
 
@@ -93,29 +93,29 @@ same_length c = search rules
 
 returns : tie.Need-returns
 returns c =
-    let at-put-byte2 = c.before.before in
-    let at-put-signed = at-put-byte2.before.before.before.before in
-    let at-put-byte = at-put-signed.before.before.before.before in
-    let at-put-number = at-put-byte.before.before.before.before in
-    let at-put-bytes = at-put-number.before.before.before.before in
-    let start = at-put-bytes.before.before.before.before in
+    let at_put_byte2 = c.before.before in
+    let at_put_signed = at_put_byte2.before.before.before.before in
+    let at_put_byte = at_put_signed.before.before.before.before in
+    let at_put_number = at_put_byte.before.before.before.before in
+    let at_put_bytes = at_put_number.before.before.before.before in
+    let start = at_put_bytes.before.before.before.before in
     let a = start.args in
     put_as
     (put_then
-    (put_then (put_then (put_then at-put-bytes.put-bytes.ensures at-put-number.put-number.ensures) at-put-byte.put_byte.ensures)
-    (put_as at-put-signed.put-signed.ensures (ap signed (to_z-of_z w32 a.detail start.ranges.detail))))
-    at-put-byte2.put-byte2.ensures)
-    (answer-is a.number a.detail)
+    (put_then (put_then (put_then at_put_bytes.put-bytes.ensures at_put_number.put-number.ensures) at_put_byte.put_byte.ensures)
+    (put_as at_put_signed.put-signed.ensures (ap signed (to_z-of_z w32 a.detail start.ranges.detail))))
+    at_put_byte2.put-byte2.ensures)
+    (answer_is a.number a.detail)
 
-pub put-answer-spec : {M : Type 1} → statement M
-put-answer-spec =
+pub put_answer_spec : {M : Type 1} → statement M
+put_answer_spec =
     tie.close
     (tie.spec
-    slice-aggregate-put-bytes
-    put-bytes-requires
-    put-number-requires
-    put-byte-requires
-    put-signed-requires
-    put-byte-requires-2
+    slice_aggregate_put_bytes
+    put_bytes_requires
+    put_number_requires
+    put_byte_requires
+    put_signed_requires
+    put_byte_requires_2
     same_length
     returns)

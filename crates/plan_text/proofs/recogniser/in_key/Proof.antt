@@ -6,11 +6,11 @@ use borrow.Author.Rules.{rules}
 use Rattle.plan_text.proofs.recogniser.in_key.Statement.{statement}
 use Rattle.plan_text.proofs.recogniser.in_key.Tie as tie
 
-key-length-requires : tie.Need-key-length-requires
-key-length-requires c κs = search rules
+key_length_requires : tie.Need-key-length-requires
+key_length_requires c κs = search rules
 
 returns : tie.Need-returns
 returns c = ap (λ (n : ℕ). ltb c.before.before.args.r.matched n) c.before.key-length.ensures
 
-pub in-key-spec : {M : Type 1} → statement M
-in-key-spec = tie.close (tie.spec key-length-requires returns)
+pub in_key_spec : {M : Type 1} → statement M
+in_key_spec = tie.close (tie.spec key_length_requires returns)

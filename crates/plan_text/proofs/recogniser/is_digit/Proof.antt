@@ -5,14 +5,14 @@ use borrow.Author.Rules.{rules}
 use Rattle.plan_text.proofs.recogniser.is_digit.Statement.{statement}
 use Rattle.plan_text.proofs.recogniser.is_digit.Tie as tie
 
-add-outside : tie.Need-overflow-add-outside
-add-outside c = search rules
+add_outside : tie.Need-overflow-add-outside
+add_outside c = search rules
 
-outside-requires : tie.Need-outside-requires
-outside-requires c κs = search rules
+outside_requires : tie.Need-outside-requires
+outside_requires c κs = search rules
 
 returns : tie.Need-returns
 returns c = ap not c.outside.ensures
 
-pub is-digit-spec : {M : Type 1} → statement M
-is-digit-spec = tie.close (tie.spec add-outside outside-requires returns)
+pub is_digit_spec : {M : Type 1} → statement M
+is_digit_spec = tie.close (tie.spec add_outside outside_requires returns)

@@ -1,5 +1,5 @@
 -- `plan_text::recogniser::may_grow` meets its contract.
-use Rattle.plan_text.specs.Reading.{mayGrow}
+use Rattle.plan_text.specs.Reading.{may_grow}
 use mathlib.Core.Bool.{not}
 use borrow.Author.Tests.{not-true, not-false}
 use mathlib.Core.Path.{ap}
@@ -10,11 +10,11 @@ use Rattle.plan_text.proofs.recogniser.may_grow.Tie as tie
 returns : tie.Need-returns
 returns c = search rules
 
-outside-requires : tie.Need-outside-requires
-outside-requires c κs = search rules
+outside_requires : tie.Need-outside-requires
+outside_requires c κs = search rules
 
-returns-2 : tie.Need-returns-2
-returns-2 c = rw (mayGrow, not-false c.before.before.before.args.r.started c.before.if1.false) (ap not c.outside.ensures)
+returns_2 : tie.Need-returns-2
+returns_2 c = rw (may_grow, not-false c.before.before.before.args.r.started c.before.if1.false) (ap not c.outside.ensures)
 
-pub may-grow-spec : {M : Type 1} → statement M
-may-grow-spec = tie.close (tie.spec returns outside-requires returns-2)
+pub may_grow_spec : {M : Type 1} → statement M
+may_grow_spec = tie.close (tie.spec returns outside_requires returns_2)

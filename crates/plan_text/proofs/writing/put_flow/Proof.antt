@@ -1,70 +1,70 @@
 -- `plan_text::writing::put_flow` meets its contract.
 use Rattle.plan_text.proofs.Putting.{put_then, put_as}
-use Rattle.plan_text.proofs.PlanLines.{ended-length, flow-is, flow-length}
-use Rattle.plan_text.specs.Form.{comma, lineFeed}
+use Rattle.plan_text.proofs.PlanLines.{ended_length, flow_is, flow_length}
+use Rattle.plan_text.specs.Form.{comma, line_feed}
 use native.Mathlib.Omega.{arith}
 use borrow.Author.Rules.{rules}
 use Rattle.plan_text.proofs.writing.put_flow.Statement.{statement}
 use Rattle.plan_text.proofs.writing.put_flow.Tie as tie
 
-slice-aggregate-put-bytes : tie.Need-slice-aggregate-put-bytes
-slice-aggregate-put-bytes c = search rules
+slice_aggregate_put_bytes : tie.Need-slice-aggregate-put-bytes
+slice_aggregate_put_bytes c = search rules
 
-put-bytes-requires : tie.Need-put-bytes-requires
-put-bytes-requires c κs = search rules
+put_bytes_requires : tie.Need-put-bytes-requires
+put_bytes_requires c κs = search rules
 
-put-ended-requires : tie.Need-put-ended-requires
-put-ended-requires c κs =
-    let at-put-bytes = c.before.before.before in
-    let start = at-put-bytes.before.before.before.before in
+put_ended_requires : tie.Need-put-ended-requires
+put_ended_requires c κs =
+    let at_put_bytes = c.before.before.before in
+    let start = at_put_bytes.before.before.before.before in
     let a = start.args in
     omega (
       arith,
-      flow-length a.input a.output a.cells,
+      flow_length a.input a.output a.cells,
       start.requires,
-      ended-length a.input comma,
-      at-put-bytes.put-bytes.ensures.next-is,
-      at-put-bytes.put-bytes.auto.0,
+      ended_length a.input comma,
+      at_put_bytes.put-bytes.ensures.next_is,
+      at_put_bytes.put-bytes.auto.0,
     )
 
-put-ended-requires-2 : tie.Need-put-ended-requires-2
-put-ended-requires-2 c κs =
-    let at-put-ended = c.before.before.before in
-    let at-put-bytes = at-put-ended.before.before.before.before in
-    let start = at-put-bytes.before.before.before.before in
+put_ended_requires_2 : tie.Need-put-ended-requires-2
+put_ended_requires_2 c κs =
+    let at_put_ended = c.before.before.before in
+    let at_put_bytes = at_put_ended.before.before.before.before in
+    let start = at_put_bytes.before.before.before.before in
     let a = start.args in
     omega (
       arith,
-      flow-length a.input a.output a.cells,
+      flow_length a.input a.output a.cells,
       start.requires,
-      ended-length a.input comma,
-      ended-length a.output comma,
-      at-put-bytes.put-bytes.ensures.next-is,
-      at-put-bytes.put-bytes.auto.0,
-      at-put-ended.put_ended.ensures.next-is,
-      at-put-ended.put_ended.auto.0,
+      ended_length a.input comma,
+      ended_length a.output comma,
+      at_put_bytes.put-bytes.ensures.next_is,
+      at_put_bytes.put-bytes.auto.0,
+      at_put_ended.put_ended.ensures.next_is,
+      at_put_ended.put_ended.auto.0,
     )
 
-put-ended-requires-3 : tie.Need-put-ended-requires-3
-put-ended-requires-3 c κs =
-    let at-put-ended2 = c.before.before.before in
-    let at-put-ended = at-put-ended2.before.before.before.before in
-    let at-put-bytes = at-put-ended.before.before.before.before in
-    let start = at-put-bytes.before.before.before.before in
+put_ended_requires_3 : tie.Need-put-ended-requires-3
+put_ended_requires_3 c κs =
+    let at_put_ended2 = c.before.before.before in
+    let at_put_ended = at_put_ended2.before.before.before.before in
+    let at_put_bytes = at_put_ended.before.before.before.before in
+    let start = at_put_bytes.before.before.before.before in
     let a = start.args in
     omega (
       arith,
-      flow-length a.input a.output a.cells,
+      flow_length a.input a.output a.cells,
       start.requires,
-      ended-length a.input comma,
-      ended-length a.output comma,
-      ended-length a.cells lineFeed,
-      at-put-bytes.put-bytes.ensures.next-is,
-      at-put-bytes.put-bytes.auto.0,
-      at-put-ended.put_ended.ensures.next-is,
-      at-put-ended.put_ended.auto.0,
-      at-put-ended2.put-ended2.ensures.next-is,
-      at-put-ended2.put-ended2.auto.0,
+      ended_length a.input comma,
+      ended_length a.output comma,
+      ended_length a.cells line_feed,
+      at_put_bytes.put-bytes.ensures.next_is,
+      at_put_bytes.put-bytes.auto.0,
+      at_put_ended.put_ended.ensures.next_is,
+      at_put_ended.put_ended.auto.0,
+      at_put_ended2.put-ended2.ensures.next_is,
+      at_put_ended2.put-ended2.auto.0,
     )
 
 same_length : tie.Need-same-length
@@ -72,24 +72,24 @@ same_length c = search rules
 
 returns : tie.Need-returns
 returns c =
-    let at-put-ended3 = c.before.before in
-    let at-put-ended2 = at-put-ended3.before.before.before.before in
-    let at-put-ended = at-put-ended2.before.before.before.before in
-    let at-put-bytes = at-put-ended.before.before.before.before in
-    let a = at-put-bytes.before.before.before.before.args in
+    let at_put_ended3 = c.before.before in
+    let at_put_ended2 = at_put_ended3.before.before.before.before in
+    let at_put_ended = at_put_ended2.before.before.before.before in
+    let at_put_bytes = at_put_ended.before.before.before.before in
+    let a = at_put_bytes.before.before.before.before.args in
     put_as
-    (put_then (put_then (put_then at-put-bytes.put-bytes.ensures at-put-ended.put_ended.ensures) at-put-ended2.put-ended2.ensures)
-    at-put-ended3.put-ended3.ensures)
-    (flow-is a.input a.output a.cells)
+    (put_then (put_then (put_then at_put_bytes.put-bytes.ensures at_put_ended.put_ended.ensures) at_put_ended2.put-ended2.ensures)
+    at_put_ended3.put-ended3.ensures)
+    (flow_is a.input a.output a.cells)
 
-pub put-flow-spec : {M : Type 1} → statement M
-put-flow-spec =
+pub put_flow_spec : {M : Type 1} → statement M
+put_flow_spec =
     tie.close
     (tie.spec
-    slice-aggregate-put-bytes
-    put-bytes-requires
-    put-ended-requires
-    put-ended-requires-2
-    put-ended-requires-3
+    slice_aggregate_put_bytes
+    put_bytes_requires
+    put_ended_requires
+    put_ended_requires_2
+    put_ended_requires_3
     same_length
     returns)

@@ -1,29 +1,29 @@
 -- `plan_text::writing::put_line` meets its contract.
 use Rattle.plan_text.proofs.Putting.{put_then, put_as}
-use Rattle.plan_text.proofs.PlanLines.{ended-length, line-is, line-length}
-use Rattle.plan_text.specs.Form.{lineFeed}
+use Rattle.plan_text.proofs.PlanLines.{ended_length, line_is, line-length}
+use Rattle.plan_text.specs.Form.{line_feed}
 use native.Mathlib.Omega.{arith}
 use borrow.Author.Rules.{rules}
 use Rattle.plan_text.proofs.writing.put_line.Statement.{statement}
 use Rattle.plan_text.proofs.writing.put_line.Tie as tie
 
-put-bytes-requires : tie.Need-put-bytes-requires
-put-bytes-requires c κs =
+put_bytes_requires : tie.Need-put-bytes-requires
+put_bytes_requires c κs =
     let start = c.before.before.before in
     omega (arith, line-length start.args.key.now start.args.n, start.requires)
 
-put-ended-requires : tie.Need-put-ended-requires
-put-ended-requires c κs =
-    let at-put-bytes = c.before.before.before in
-    let start = at-put-bytes.before.before.before.before in
+put_ended_requires : tie.Need-put-ended-requires
+put_ended_requires c κs =
+    let at_put_bytes = c.before.before.before in
+    let start = at_put_bytes.before.before.before.before in
     let a = start.args in
     omega (
       arith,
       line-length a.key.now a.n,
-      ended-length a.n lineFeed,
+      ended_length a.n line_feed,
       start.requires,
-      at-put-bytes.put-bytes.ensures.next-is,
-      at-put-bytes.put-bytes.auto.0,
+      at_put_bytes.put-bytes.ensures.next_is,
+      at_put_bytes.put-bytes.auto.0,
     )
 
 same_length : tie.Need-same-length
@@ -31,10 +31,10 @@ same_length c = search rules
 
 returns : tie.Need-returns
 returns c =
-    let at-put-ended = c.before.before in
-    let at-put-bytes = at-put-ended.before.before.before.before in
-    let a = at-put-bytes.before.before.before.before.args in
-    put_as (put_then at-put-bytes.put-bytes.ensures at-put-ended.put_ended.ensures) (line-is a.key.now a.n)
+    let at_put_ended = c.before.before in
+    let at_put_bytes = at_put_ended.before.before.before.before in
+    let a = at_put_bytes.before.before.before.before.args in
+    put_as (put_then at_put_bytes.put-bytes.ensures at_put_ended.put_ended.ensures) (line_is a.key.now a.n)
 
-pub put-line-spec : {M : Type 1} → statement M
-put-line-spec = tie.close (tie.spec put-bytes-requires put-ended-requires same_length returns)
+pub put_line_spec : {M : Type 1} → statement M
+put_line_spec = tie.close (tie.spec put_bytes_requires put_ended_requires same_length returns)

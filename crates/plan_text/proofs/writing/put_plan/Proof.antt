@@ -1,44 +1,44 @@
 -- `plan_text::writing::put_plan` meets its contract.
-use Rattle.plan_text.proofs.PlanLines.{plan-length, plan-is}
+use Rattle.plan_text.proofs.PlanLines.{plan_length, plan_is}
 use Rattle.plan_text.proofs.Putting.{put_then, put_as}
 use native.Mathlib.Omega.{arith}
 use borrow.Author.Rules.{rules}
 use Rattle.plan_text.proofs.writing.put_plan.Statement.{statement}
 use Rattle.plan_text.proofs.writing.put_plan.Tie as tie
 
-slice-aggregate-put-line : tie.Need-slice-aggregate-put-line
-slice-aggregate-put-line c = search rules
+slice_aggregate_put_line : tie.Need-slice-aggregate-put-line
+slice_aggregate_put_line c = search rules
 
-put-line-requires : tie.Need-put-line-requires
-put-line-requires c κs =
+put_line_requires : tie.Need-put-line-requires
+put_line_requires c κs =
     let start = c.before.before.before.before in
     let a = start.args in
-    omega (arith, plan-length a.frame a.ports a.list.now, start.requires.0)
+    omega (arith, plan_length a.frame a.ports a.list.now, start.requires.0)
 
-slice-aggregate-put-line-2 : tie.Need-slice-aggregate-put-line-2
-slice-aggregate-put-line-2 c = search rules
+slice_aggregate_put_line_2 : tie.Need-slice-aggregate-put-line-2
+slice_aggregate_put_line_2 c = search rules
 
-put-line-requires-2 : tie.Need-put-line-requires-2
-put-line-requires-2 c κs =
-    let at-put-line = c.before.before.before.before in
-    let start = at-put-line.before.before.before.before.before in
+put_line_requires_2 : tie.Need-put-line-requires-2
+put_line_requires_2 c κs =
+    let at_put_line = c.before.before.before.before in
+    let start = at_put_line.before.before.before.before.before in
     let a = start.args in
-    omega (arith, plan-length a.frame a.ports a.list.now, start.requires.0, at-put-line.put-line.ensures.next-is, at-put-line.put-line.auto.0)
+    omega (arith, plan_length a.frame a.ports a.list.now, start.requires.0, at_put_line.put-line.ensures.next_is, at_put_line.put-line.auto.0)
 
-put-flows-requires : tie.Need-put-flows-requires
-put-flows-requires c κs =
-    let at-put-line2 = c.before.before.before in
-    let at-put-line = at-put-line2.before.before.before.before.before in
-    let start = at-put-line.before.before.before.before.before in
+put_flows_requires : tie.Need-put-flows-requires
+put_flows_requires c κs =
+    let at_put_line2 = c.before.before.before in
+    let at_put_line = at_put_line2.before.before.before.before.before in
+    let start = at_put_line.before.before.before.before.before in
     let a = start.args in (
       omega (
         arith,
-        plan-length a.frame a.ports a.list.now,
+        plan_length a.frame a.ports a.list.now,
         start.requires.0,
-        at-put-line.put-line.ensures.next-is,
-        at-put-line.put-line.auto.0,
-        at-put-line2.put-line2.ensures.next-is,
-        at-put-line2.put-line2.auto.0,
+        at_put_line.put-line.ensures.next_is,
+        at_put_line.put-line.auto.0,
+        at_put_line2.put-line2.ensures.next_is,
+        at_put_line2.put-line2.auto.0,
       ),
       start.requires.1,
     )
@@ -48,21 +48,21 @@ same_length c = search rules
 
 returns : tie.Need-returns
 returns c =
-    let at-put-flows = c.before.before in
-    let at-put-line2 = at-put-flows.before.before.before.before in
-    let at-put-line = at-put-line2.before.before.before.before.before in
-    let a = at-put-line.before.before.before.before.before.args in
-    put_as (put_then (put_then at-put-line.put-line.ensures at-put-line2.put-line2.ensures) at-put-flows.put-flows.ensures)
-    (plan-is a.frame a.ports a.list.now)
+    let at_put_flows = c.before.before in
+    let at_put_line2 = at_put_flows.before.before.before.before in
+    let at_put_line = at_put_line2.before.before.before.before.before in
+    let a = at_put_line.before.before.before.before.before.args in
+    put_as (put_then (put_then at_put_line.put-line.ensures at_put_line2.put-line2.ensures) at_put_flows.put-flows.ensures)
+    (plan_is a.frame a.ports a.list.now)
 
-pub put-plan-spec : {M : Type 1} → statement M
-put-plan-spec =
+pub put_plan_spec : {M : Type 1} → statement M
+put_plan_spec =
     tie.close
     (tie.spec
-    slice-aggregate-put-line
-    put-line-requires
-    slice-aggregate-put-line-2
-    put-line-requires-2
-    put-flows-requires
+    slice_aggregate_put_line
+    put_line_requires
+    slice_aggregate_put_line_2
+    put_line_requires_2
+    put_flows_requires
     same_length
     returns)

@@ -1,94 +1,94 @@
 -- `tables::check::first_count_wrong` meets its contract: the loop is a search for the lowest flow, over the counts of one pass.
-use Rattle.tables.proofs.Counts.{count-bound, count-wrong, count-right}
-use Rattle.tables.proofs.Places.{size-bound}
-use Rattle.tables.specs.Check.{countWrong}
-use Rattle.flows.specs.Flows.{flowCount}
-use Rattle.answers.proofs.Lowest.{Searched, search-start, search-more, search-hit, search-end}
+use Rattle.tables.proofs.Counts.{count_bound, count_wrong_lem, count_right}
+use Rattle.tables.proofs.Places.{size_bound}
+use Rattle.tables.specs.Check.{count_wrong}
+use Rattle.flows.specs.Flows.{flow_count}
+use Rattle.answers.proofs.Lowest.{Searched, search_start, search_more, search_hit, search_end}
 use native.Mathlib.Omega.{arith}
 use Prim.Native.Nat.{suc, ◌-◌, ◌*◌}
 use Rattle.tables.proofs.check.first_count_wrong.Statement.{statement}
 use Rattle.tables.proofs.check.first_count_wrong.Tie as tie
 
-abbrev invariant-loop : tie.invariant-loop
-invariant-loop frame ports list table counts last flow₀ flow = Searched 1 (flowCount list) (countWrong frame ports list table) flow
+abbrev invariant_loop : tie.invariant_loop
+invariant_loop frame ports list table counts last flow₀ flow = Searched 1 (flow_count list) (count_wrong frame ports list table) flow
 
-abbrev decreases-loop : tie.decreases-loop
-decreases-loop frame ports list table counts last flow₀ flow = suc last - flow
+abbrev decreases_loop : tie.decreases_loop
+decreases_loop frame ports list table counts last flow₀ flow = suc last - flow
 
-mul-count-entries : tie.Need-overflow-mul-count-entries invariant-loop decreases-loop
-mul-count-entries c = omega (arith, size-bound c.before.before.requires.0)
+mul_count_entries : tie.Need-overflow-mul-count-entries invariant_loop decreases_loop
+mul_count_entries c = omega (arith, size_bound c.before.before.requires.0)
 
-count-entries-requires : tie.Need-count-entries-requires invariant-loop decreases-loop
-count-entries-requires c κs = (c.before.before.requires.0.long-enough, size-bound c.before.before.requires.0)
+count_entries_requires : tie.Need-count-entries-requires invariant_loop decreases_loop
+count_entries_requires c κs = (c.before.before.requires.0.long_enough, size_bound c.before.before.requires.0)
 
-flow-count-requires : tie.Need-flow-count-requires invariant-loop decreases-loop
-flow-count-requires c κs = tt
+flow_count_requires : tie.Need-flow-count-requires invariant_loop decreases_loop
+flow_count_requires c κs = tt
 
-loop-holds : tie.Need-loop-init invariant-loop decreases-loop
-loop-holds c = search-start 1 _ _
+loop_holds : tie.Need-loop-init invariant_loop decreases_loop
+loop_holds c = search_start 1 _ _
 
-mul-found : tie.Need-overflow-mul-found invariant-loop decreases-loop
-mul-found c = omega arith
+mul_found : tie.Need-overflow-mul-found invariant_loop decreases_loop
+mul_found c = omega arith
 
-array-read-found : tie.Need-array-read-found invariant-loop decreases-loop
-array-read-found c = omega arith
+array_read_found : tie.Need-array-read-found invariant_loop decreases_loop
+array_read_found c = omega arith
 
-cast-found : tie.Need-overflow-cast-found invariant-loop decreases-loop
-cast-found c =
+cast_found : tie.Need-overflow-cast-found invariant_loop decreases_loop
+cast_found c =
     let a = c.before.before.before.before.before.before in
     omega (
       arith,
       c.before.before.before.count_entries.ensures c.before.loop.flow (omega arith),
-      size-bound a.requires.0,
-      count-bound a.args.table.now (a.args.ports * a.args.frame) c.before.loop.flow,
+      size_bound a.requires.0,
+      count_bound a.args.table.now (a.args.ports * a.args.frame) c.before.loop.flow,
     )
 
-cells-of-requires : tie.Need-cells-of-requires invariant-loop decreases-loop
-cells-of-requires c κs = tt
+cells_of_requires : tie.Need-cells-of-requires invariant_loop decreases_loop
+cells_of_requires c κs = tt
 
-returns : tie.Need-returns invariant-loop decreases-loop
+returns : tie.Need-returns invariant_loop decreases_loop
 returns c =
-    let at-loop = c.before.before.before in
-    let at-count-entries = at-loop.before.before in
-    let a = at-count-entries.before.before.before.args in
-    search-hit at-loop.loop.invariant (omega arith)
-    (count-wrong a.frame a.ports a.list.now a.table.now at-count-entries.count_entries.result
-    at-count-entries.count_entries.ensures _ (omega arith) _ c.before.Cells-of.ensures c.if1.true)
+    let at_loop = c.before.before.before in
+    let at_count_entries = at_loop.before.before in
+    let a = at_count_entries.before.before.before.args in
+    search_hit at_loop.loop.invariant (omega arith)
+    (count_wrong_lem a.frame a.ports a.list.now a.table.now at_count_entries.count_entries.result
+    at_count_entries.count_entries.ensures _ (omega arith) _ c.before.Cells-of.ensures c.if1.true)
 
-add-flow : tie.Need-overflow-add-flow invariant-loop decreases-loop
-add-flow c = omega arith
+add_flow : tie.Need-overflow-add-flow invariant_loop decreases_loop
+add_flow c = omega arith
 
-loop-less : tie.Need-loop-smaller invariant-loop decreases-loop
-loop-less c = omega arith
+loop_less : tie.Need-loop-smaller invariant_loop decreases_loop
+loop_less c = omega arith
 
-loop-again : tie.Need-loop-preserved invariant-loop decreases-loop
-loop-again c =
-    let at-loop = c.before.before.before in
-    let at-count-entries = at-loop.before.before in
-    let a = at-count-entries.before.before.before.args in
-    search-more at-loop.loop.invariant (omega arith)
-    (count-right a.frame a.ports a.list.now a.table.now at-count-entries.count_entries.result
-    at-count-entries.count_entries.ensures _ (omega arith) _ c.before.Cells-of.ensures c.if1.false)
+loop_again : tie.Need-loop-preserved invariant_loop decreases_loop
+loop_again c =
+    let at_loop = c.before.before.before in
+    let at_count_entries = at_loop.before.before in
+    let a = at_count_entries.before.before.before.args in
+    search_more at_loop.loop.invariant (omega arith)
+    (count_right a.frame a.ports a.list.now a.table.now at_count_entries.count_entries.result
+    at_count_entries.count_entries.ensures _ (omega arith) _ c.before.Cells-of.ensures c.if1.false)
 
-returns-2 : tie.Need-returns-2 invariant-loop decreases-loop
-returns-2 c = search-end c.before.loop.invariant (omega arith)
+returns_2 : tie.Need-returns-2 invariant_loop decreases_loop
+returns_2 c = search_end c.before.loop.invariant (omega arith)
 
-pub first-count-wrong-spec : {M : Type 1} → statement M
-first-count-wrong-spec =
+pub first_count_wrong_spec : {M : Type 1} → statement M
+first_count_wrong_spec =
     tie.close
     (tie.spec
-    invariant-loop
-    decreases-loop
-    mul-count-entries
-    count-entries-requires
-    flow-count-requires
-    loop-holds
-    mul-found
-    array-read-found
-    cast-found
-    cells-of-requires
+    invariant_loop
+    decreases_loop
+    mul_count_entries
+    count_entries_requires
+    flow_count_requires
+    loop_holds
+    mul_found
+    array_read_found
+    cast_found
+    cells_of_requires
     returns
-    add-flow
-    loop-less
-    loop-again
-    returns-2)
+    add_flow
+    loop_less
+    loop_again
+    returns_2)

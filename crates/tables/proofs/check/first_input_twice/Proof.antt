@@ -1,49 +1,49 @@
 -- `tables::check::first_input_twice` meets its contract: the loop is a search for the lowest slot.
-use Rattle.tables.specs.Check.{inputTwice}
-use Rattle.answers.proofs.Lowest.{Searched, search-start, search-more, search-hit, search-end}
+use Rattle.tables.specs.Check.{input_twice}
+use Rattle.answers.proofs.Lowest.{Searched, search_start, search_more, search_hit, search_end}
 use native.Mathlib.Omega.{arith}
 use mathlib.Core.Path.{sym, ◌∙◌}
 use Prim.Native.Nat.{◌-◌}
 use Rattle.tables.proofs.check.first_input_twice.Statement.{statement}
 use Rattle.tables.proofs.check.first_input_twice.Tie as tie
 
-abbrev invariant-loop : tie.invariant-loop
-invariant-loop frame ports list table slot₀ slot = Searched 0 frame (inputTwice frame ports list table) slot
+abbrev invariant_loop : tie.invariant_loop
+invariant_loop frame ports list table slot₀ slot = Searched 0 frame (input_twice frame ports list table) slot
 
-abbrev decreases-loop : tie.decreases-loop
-decreases-loop frame ports list table slot₀ slot = frame - slot
+abbrev decreases_loop : tie.decreases_loop
+decreases_loop frame ports list table slot₀ slot = frame - slot
 
-loop-holds : tie.Need-loop-init invariant-loop decreases-loop
-loop-holds c = search-start 0 _ _
+loop_holds : tie.Need-loop-init invariant_loop decreases_loop
+loop_holds c = search_start 0 _ _
 
-input-twice-requires : tie.Need-input-twice-requires invariant-loop decreases-loop
-input-twice-requires c κs = (c.before.before.before.before.requires, c.loop-test.true)
+input_twice_requires : tie.Need-input-twice-requires invariant_loop decreases_loop
+input_twice_requires c κs = (c.before.before.before.before.requires, c.loop-test.true)
 
-returns : tie.Need-returns invariant-loop decreases-loop
-returns c = search-hit c.before.before.before.loop.invariant (omega arith) (sym c.before.input-twice.ensures ∙ c.if1.true)
+returns : tie.Need-returns invariant_loop decreases_loop
+returns c = search_hit c.before.before.before.loop.invariant (omega arith) (sym c.before.input-twice.ensures ∙ c.if1.true)
 
-add-slot : tie.Need-overflow-add-slot invariant-loop decreases-loop
-add-slot c = omega arith
+add_slot : tie.Need-overflow-add-slot invariant_loop decreases_loop
+add_slot c = omega arith
 
-loop-less : tie.Need-loop-smaller invariant-loop decreases-loop
-loop-less c = omega arith
+loop_less : tie.Need-loop-smaller invariant_loop decreases_loop
+loop_less c = omega arith
 
-loop-again : tie.Need-loop-preserved invariant-loop decreases-loop
-loop-again c = search-more c.before.before.before.loop.invariant (omega arith) (sym c.before.input-twice.ensures ∙ c.if1.false)
+loop_again : tie.Need-loop-preserved invariant_loop decreases_loop
+loop_again c = search_more c.before.before.before.loop.invariant (omega arith) (sym c.before.input-twice.ensures ∙ c.if1.false)
 
-returns-2 : tie.Need-returns-2 invariant-loop decreases-loop
-returns-2 c = search-end c.before.loop.invariant (omega arith)
+returns_2 : tie.Need-returns-2 invariant_loop decreases_loop
+returns_2 c = search_end c.before.loop.invariant (omega arith)
 
-pub first-input-twice-spec : {M : Type 1} → statement M
-first-input-twice-spec =
+pub first_input_twice_spec : {M : Type 1} → statement M
+first_input_twice_spec =
     tie.close
     (tie.spec
-    invariant-loop
-    decreases-loop
-    loop-holds
-    input-twice-requires
+    invariant_loop
+    decreases_loop
+    loop_holds
+    input_twice_requires
     returns
-    add-slot
-    loop-less
-    loop-again
-    returns-2)
+    add_slot
+    loop_less
+    loop_again
+    returns_2)
