@@ -11,8 +11,8 @@ pub const ROUNDS: u32 = 12_000;
 const SEED: u64 = 20_261_115;
 
 pub type Edges = [u32; 10];
-pub const FRAMES: Edges = [0, 1, 2, 3, 5, 8, 60, MOST_FRAME, MOST_FRAME + 1, 4000000000];
-pub const PORTS: Edges = [0, 1, 2, 3, 4, 8, 32, 33, 4000000000, 1];
+const FRAMES: Edges = [0, 1, 2, 3, 5, 8, 60, MOST_FRAME, MOST_FRAME + 1, 4000000000];
+const PORTS: Edges = [0, 1, 2, 3, 4, 8, 32, 33, 4000000000, 1];
 const DEADLINES: Edges = [
     0,
     1,
@@ -44,7 +44,6 @@ const BITS: Edges = [
 ];
 const COUNTS: Edges = [0, 1, 2, 3, 5, 10, 100, 254, 255, 256];
 const OFFERS: Edges = [0, 1, 2, 5, 100, 3999, 4000, 4001, 40000, 65535];
-const DIGITS: Edges = [6, 14, 21, 23, 25, 32, 34, 36, 43, 45];
 
 /// The buffers live through the whole run, so a byte left wrong by one call shows later.
 pub struct Calls {
@@ -282,33 +281,15 @@ impl Calls {
         self.line(format_args!("write {} {text}", shown(outcome)));
         match outcome {
             Ok(bytes) => bytes as usize,
-            Err(_) => self.any_cut(),
-        }
-    }
-
-    /// Seldom about as long as a text may be.
-    fn any_cut(&mut self) -> usize {
-        let cut = if self.rarely(16) { 8_188 + self.pick(10) } else { self.pick(200) };
-        cut as usize
-    }
-
-    /// Any byte anywhere, or a 0 or a 9 where a short text has a digit.
-    fn spoil(&mut self) {
-        match self.pick(4) {
-            0 => {
-                let place = self.pick(200) as usize;
-                self.text[place] = self.pick(256) as u8;
-            }
-            1 | 2 => {
-                let place = self.of(&DIGITS) as usize;
-                self.text[place] = if self.pick(2) == 0 { b'0' } else { b'9' };
-            }
-            _ => (),
+            Err(_) => self.pick(200) as usize,
         }
     }
 
     fn read(&mut self, cut: usize) {
-        self.spoil();
+        if self.rarely(4) {
+            let place = self.pick(200) as usize;
+            self.text[place] = self.pick(256) as u8;
+        }
         let room = self.pick(25) as usize;
         let outcome = text::read(&self.text[..cut], &mut self.list[..room]);
         let (frame, ports, answer) = read_shown(outcome);
@@ -351,7 +332,7 @@ impl Calls {
         self.record = running;
     }
 
-    /// All of a round but its cycle, run and TRD, and its build.
+    /// All of a round but its cycle, run and TRD.
     pub fn turn(&mut self, round: u32) {
         self.round();
         if round % 4 == 1 {
@@ -377,11 +358,6 @@ pub fn has_cycle(round: u32) -> bool {
     round % 8 == 2
 }
 
-/// Whether the round also has a build.
-pub fn has_build(round: u32) -> bool {
-    round % 16 == 7
-}
-
 /// The lines of the whole sequence.
 pub fn lines() -> String {
     let mut calls = Calls::new();
@@ -389,9 +365,6 @@ pub fn lines() -> String {
         calls.turn(round);
         if has_cycle(round) {
             calls.cycle_run_and_trd();
-        }
-        if has_build(round) {
-            calls.build();
         }
     }
     calls.lines
@@ -410,42 +383,28 @@ mod tests {
         assert_eq!(digest::<u8>(&[]), 7);
         assert_eq!(digest(&[0u8]), 7 * 257 + 1);
         assert_eq!(digest(&[65_535u16, 1]), ((7 * 257 + 65_536) * 257 + 2) % 1_000_003);
-        assert_eq!(lines().lines().count(), 12_000 + 2 * 750 + 2 * 3_000 + 3 * 1_500 + 750);
+        assert_eq!(lines().lines().count(), 12_000 + 2 * 750 + 2 * 3_000 + 3 * 1_500);
     }
 
-    /// Every number that a call may give, by the documents' orders.
-    const GIVEN: &str = "margin 0 1 15 16 25;room 0 1 16 25;fit 0 1 17 18;cells 0 23;\
-         build 0 1 2 3 4 5 6 7;check 0 1 2 3 4 7 8 9 10;row 0 1 2 7 22;start 0 1 2 12;\
-         offer 0 12 13 14;slot 0 1 2 7 11 12 28;write 0 1 2 3 4 21;\
-         read 0 1 2 3 4 19 20 21;cycle 0 21 30 31 34;run 0 21 30 31 34;trd 0 32";
-
-    /// The call that a line is of; some have two names.
-    fn call_of(name: &str) -> &str {
-        match name {
-            "accept" => "check",
-            "other" => "slot",
-            _ => name,
-        }
-    }
-
-    /// A sequence that never meets an answer would compare nothing about it. Read's 3, a text of
-    /// more than 255 flows, is the only one not met here; the planner's texts meet it.
+    /// A sequence that never meets an answer would compare nothing about it. Not met are some of
+    /// read's, which the planner's texts meet.
     #[test]
-    fn every_answer_but_one_is_met() {
+    fn nearly_every_answer_is_met() {
+        let wanted = "margin 0 1 15 16 25;room 0 1 16 25;fit 0 1 17 18;cells 0 23;\
+             check 1 2 3 4 7 8 10;row 0 1 2 7 22;start 0 1 2 12;offer 0 12 13 14;\
+             slot 0 7 12 28;write 0 1 2 3 4 21;read 0 20 21;accept 0 8 9 10;other 0 1 2 7 11 28;\
+             cycle 0 21 30 31 34;run 0 21 30 31 34;trd 0 32";
         let lines = lines();
         let met: BTreeSet<_> = lines
             .lines()
             .filter_map(|line| line.split_once(','))
-            .filter_map(|(start, _)| start.split_once(' '))
-            .map(|(name, number)| format!("{} {number}", call_of(name)))
+            .map(|(start, _)| start.to_string())
             .collect();
-        let mut given = BTreeSet::new();
-        for call in GIVEN.split(';') {
+        for call in wanted.split(';') {
             let (name, numbers) = call.split_once(' ').unwrap();
-            given.extend(numbers.split(' ').map(|number| format!("{name} {number}")));
+            for number in numbers.split(' ') {
+                assert!(met.contains(&format!("{name} {number}")), "{name} {number}");
+            }
         }
-        let not_met: Vec<_> = given.difference(&met).collect();
-        assert_eq!(not_met, ["read 3"]);
-        assert!(met.is_subset(&given), "{met:?}");
     }
 }

@@ -185,7 +185,7 @@ impl Calls {
 #[cfg(test)]
 mod tests {
     use super::*;
-    use crate::calls::{has_build, has_cycle, lines, ROUNDS};
+    use crate::calls::{has_cycle, lines, ROUNDS};
     use crate::runs::{LATER, WAITS};
 
     #[test]
@@ -214,9 +214,6 @@ mod tests {
                     runs.push(run);
                 }
                 calls.trd();
-            }
-            if has_build(round) {
-                calls.build();
             }
         }
         (cycles, runs)

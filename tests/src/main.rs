@@ -2,8 +2,6 @@
 //! shares nothing with crates/.
 
 mod answer;
-mod bench;
-mod build_calls;
 mod builder;
 mod calls;
 mod corpus;
@@ -35,7 +33,6 @@ use std::process::ExitCode;
 const USAGE: &str = "usage: outside planner PROGRAM..
        outside calls
        outside evaluation [--planner PROGRAM..]
-       outside bench PROGRAM..
        outside reference";
 
 /// The reference planner as a program, to try the harness on.
@@ -71,7 +68,6 @@ fn main() -> ExitCode {
             let program = Program(arguments[2..].to_vec());
             ended(evaluation::run(Some(&program)))
         }
-        ["bench", _, ..] => ended(bench::run(&Program(arguments[1..].to_vec()))),
         ["reference"] => ended(reference().is_ok()),
         _ => {
             eprintln!("{USAGE}");

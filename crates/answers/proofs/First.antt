@@ -35,7 +35,7 @@ first_given [] r later d h e = rw e
 first_given (s ∷ earlier) r later d h e = rw h.0 (first_given earlier r later d h.1 e)
 
 -- a number that no refusal of a list has is not answered from it
-pub head_lacks : (a b : Bool) → T (a && b) → T a × T b
+head_lacks : (a b : Bool) → T (a && b) → T a × T b
 head_lacks true b t = (tt, t)
 head_lacks false b t = absurd t
 
@@ -60,13 +60,11 @@ lacked n (r ∷ rs) d t e = go r.holds refl (λ x. lacked n rs d parts.1 x)
 pub given_exactly : (n : ℕ) (earlier : List Rule) (r : Rule) (later : List Rule) (d : Answer)
     → r.refused.number ≡ n → T (lacks n earlier) → T (lacks n later) → T (not (eqb d.number n))
     → ((first (earlier ++ r ∷ later) d).number ≡ n) ↔ (NoneHolds earlier × (r.holds ≡ true))
-given_exactly n earlier r later d e before after last =
-    (back earlier before, λ h. ap (λ (a : Answer). a.number) (first_given earlier r later d h.0 h.1) ∙ e)
+given_exactly n earlier r later d e before after last = (back earlier before, λ h. ap (λ (a : Answer). a.number) (first_given earlier r later d h.0 h.1) ∙ e)
   where
     here : (b : Bool) → r.holds ≡ b → (first (r ∷ later) d).number ≡ n → b ≡ true
     here true h x = refl
-    here false h x =
-        absurd (not_number d.number n last (lacked n later d after (sym (ap (λ (b : Bool). (cond b r.refused (first later d)).number) h) ∙ x)).1)
+    here false h x = absurd (not_number d.number n last (lacked n later d after (sym (ap (λ (b : Bool). (cond b r.refused (first later d)).number) h) ∙ x)).1)
 
     back : (rs : List Rule) → T (lacks n rs) → (first (rs ++ r ∷ later) d).number ≡ n → NoneHolds rs × (r.holds ≡ true)
     back [] t x = (tt, here r.holds refl x)
@@ -97,8 +95,7 @@ module _ (from count : ℕ) (test : ℕ → Bool) (k : ℕ) (e : k ≡ lowest fr
       ap (λ (x : ℕ). answer n (pos (told x))) e
       ∙ sym (ap (λ (b : Bool). cond b (answer n (pos (told (lowest from count test)))) rest) (lt-ltb (lowest from count test) (from + count) (omega arith)))
 
-  pub lowest_named : (n : ℕ) (rest : Answer) → k < from + count
-      → answer n (pos k) ≡ cond (holds_somewhere from count test) (answer n (pos (lowest from count test))) rest
+  pub lowest_named : (n : ℕ) (rest : Answer) → k < from + count → answer n (pos k) ≡ cond (holds_somewhere from count test) (answer n (pos (lowest from count test))) rest
   lowest_named n rest u = lowest_told n (λ x. x) rest u
 
   pub lowest_passed : (x rest : Answer) → from + count ≤ k → rest ≡ cond (holds_somewhere from count test) x rest
@@ -113,8 +110,7 @@ first_off : (rs : List Rule) (more : List Rule) (d e : Answer) → ((first rs e)
 first_off [] more d e h = absurd (h refl)
 first_off (r ∷ rs) more d e h = go r.holds h (λ x. first_off rs more d e x)
   where
-    go : (b : Bool) → ((cond b r.refused (first rs e)).number ≡ e.number → ⊥)
-        → (((first rs e).number ≡ e.number → ⊥) → first (rs ++ more) d ≡ first rs e)
+    go : (b : Bool) → ((cond b r.refused (first rs e)).number ≡ e.number → ⊥) → (((first rs e).number ≡ e.number → ⊥) → first (rs ++ more) d ≡ first rs e)
         → cond b r.refused (first (rs ++ more) d) ≡ cond b r.refused (first rs e)
     go true x later = refl
     go false x later = later x
@@ -156,8 +152,7 @@ module _
 
     -- is given with the detail v exactly when no earlier condition holds and v is what is told of the lowest
     pub told_exactly : (told : ℕ → ℕ) (earlier later : List Rule) (d : Answer) (v : ℕ) → T (lacks n earlier) → T (lacks n later) → T (not (eqb d.number n))
-        → (first (earlier ++ telling_of_lowest n told from count test ∷ later) d ≡ answer n (pos v))
-        ↔ (NoneHolds earlier × ((k : ℕ) × IsLowest from count P k × (told k ≡ v)))
+        → (first (earlier ++ telling_of_lowest n told from count test ∷ later) d ≡ answer n (pos v)) ↔ (NoneHolds earlier × ((k : ℕ) × IsLowest from count P k × (told k ≡ v)))
     told_exactly told earlier later d v before after last = (out, back)
       where
         rule : Rule
@@ -206,13 +201,3 @@ none_later (r ∷ rs) more h = none_later rs more h.1
 pub none_both : (rs more : List Rule) → NoneHolds rs → NoneHolds more → NoneHolds (rs ++ more)
 none_both [] more h k = k
 none_both (r ∷ rs) more h k = (h.0, none_both rs more h.1 k)
-
--- a last refusal that is never due where none before it is does not count
-pub last_never : (rs : List Rule) (r : Rule) (d : Answer) → (NoneHolds rs → r.holds ≡ false) → first (rs ++ r ∷ []) d ≡ first rs d
-last_never [] r d h = rw (h tt)
-last_never (s ∷ rs) r d h = go s.holds refl (λ f. last_never rs r d f)
-  where
-    go : (b : Bool) → s.holds ≡ b → ((NoneHolds rs → r.holds ≡ false) → first (rs ++ r ∷ []) d ≡ first rs d)
-        → cond b s.refused (first (rs ++ r ∷ []) d) ≡ cond b s.refused (first rs d)
-    go true e later = refl
-    go false e later = later (λ n. h (e, n))

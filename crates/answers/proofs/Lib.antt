@@ -5,5 +5,3 @@ pub mod First
 pub mod Orders
 pub mod Sign
 pub mod Buffers
-pub mod Listed
-pub mod Sizes

@@ -112,8 +112,7 @@ search_end {from} {count} {test} {k} s u =
     omega (arith, lowest_none from count test (λ j l w. s.none_lower j l (omega arith)))
 
 -- the same searches, where the function only says whether it found one
-pub search_found : {from count : ℕ} {test : ℕ → Bool} {k : ℕ} → Searched from count test k
-    → k < from + count → test k ≡ true → true ≡ holds_somewhere from count test
+pub search_found : {from count : ℕ} {test : ℕ → Bool} {k : ℕ} → Searched from count test k → k < from + count → test k ≡ true → true ≡ holds_somewhere from count test
 search_found {from} {count} {test} {k} s u e = sym (somewhere_test from count test k s.low u e)
 
 pub search_failed : {from count : ℕ} {test : ℕ → Bool} {k : ℕ} → Searched from count test k → from + count ≤ k → false ≡ holds_somewhere from count test

@@ -1,8 +1,7 @@
 // The fixed list: what every call answers with, and the limits, each under one name.
 ghost use Rattle.std.specs.Prelude.{◌≡◌, ◌<◌, pos, nat_abs};
-ghost use Rattle.answers.specs.Answers.{refusal, answer, done_with};
+ghost use Rattle.answers.specs.Answers.{refusal, answer};
 ghost use Rattle.answers.specs.Limits.{max_detail, outside};
-ghost use Rattle.answers.specs.Sizes.{frame_answer, size_answer};
 
 // A number of the list and its detail; the detail is 0 where the list names none.
 #[repr(C)]
@@ -111,13 +110,6 @@ pub fn refusal(number: u32) -> Answer
     Answer { number, detail: 0 }
 }
 
-// The answer of a call that is done and gives no value.
-pub fn done() -> Answer
-    ensures { result ≡ done_with (pos 0) }
-{
-    refusal(DONE)
-}
-
 // An answer with a signed detail.
 pub fn detailed(number: u32, detail: i32) -> Answer
     ensures { result ≡ answer number detail }
@@ -144,30 +136,6 @@ pub fn outside(low: usize, high: usize, x: usize) -> bool
         return true;
     }
     high < x
-}
-
-// Refusal 1, or done.
-pub fn frame_answer(frame: usize) -> Answer
-    ensures { result ≡ frame_answer frame }
-{
-    if outside(1, MAX_FRAME, frame) {
-        return refusal(FRAME_OUT_OF_RANGE);
-    }
-    done()
-}
-
-// Refusals 1 and 2, or done.
-pub fn size_answer(frame: usize, ports: usize) -> Answer
-    ensures { result ≡ size_answer frame ports }
-{
-    let framed = frame_answer(frame);
-    if framed.number != DONE {
-        return framed;
-    }
-    if outside(1, MAX_PORTS, ports) {
-        return refusal(PORTS_OUT_OF_RANGE);
-    }
-    done()
 }
 
 // How large a detail is, its sign left out.

@@ -16,14 +16,13 @@ use Rattle.answers.proofs.Lowest.{lowest_found, somewhere_test, somewhere_false,
 use Rattle.answers.specs.Sums.{one}
 use Rattle.flows.specs.Flows.{IsFlow, input_of, output_of, cells_of, input_load, output_load}
 use Rattle.tables.specs.Accepted.{entry, times, Accepted}
-use Rattle.builder.specs.Exchange.{output_side}
+use Rattle.builder.specs.Exchange.{input_at, output_side}
 use Rattle.builder.specs.FreeSlots.{empty_at, input_used, free_of_row, free_of_input}
 use Rattle.builder.specs.AddCell.{one_cell_more, SameFlows, PortsInRange, MayAdd, InTwoSlots, CellAdded}
 use Rattle.builder.proofs.Places.{stored_else}
 use Rattle.builder.proofs.Loads.{free_at_row, free_at_input}
-use Rattle.builder.proofs.SameFlows.{same_back, same_on, with_cells_same, with_cells_there, with_cells_else, is_flow_same}
-use Rattle.builder.proofs.SameFlows.{placed_of, accepted_of, placed_same}
-use Rattle.builder.proofs.Placing.{no_marks, turned, put_cell, turned_exchanged, put_placed, put_times}
+use Rattle.builder.proofs.SameFlows.{same_back, same_on, with_cells_same, with_cells_there, with_cells_else, is_flow_same, placed_of, accepted_of, placed_same}
+use Rattle.builder.proofs.Placing.{no_marks, turned, put_cell, input_at_flow, turned_exchanged, put_placed, put_times}
 
 -- a test that holds in a range holds at the lowest number that is found
 found_there : (count : ℕ) (test : ℕ → Bool) (s : ℕ) → s < count → test s ≡ true → (lowest 0 count test < count) × (test (lowest 0 count test) ≡ true)
@@ -39,12 +38,15 @@ free_of_row M T r s l e =
 
 module _ (M N : ℕ) (L T : List ℕ) (i : ℕ) (some : i ≡ 0 → ⊥) where
   used_not : (s : ℕ) → ((r : ℕ) → r < N → (entry M T r s ≡ 0 → ⊥) → input_of L (entry M T r s) ≡ i → ⊥) → input_used M N L T i s ≡ false
-  used_not s h =
-      nowhere_test 0 N (λ r. eqb (input_of L (entry M T r s)) i) (λ r _ l. ne_eqb _ _ (λ e. h r (omega arith) (λ z. some (sym e ∙ ap (input_of L) z)) e))
+  used_not s h = nowhere_test 0 N (λ r. eqb (input_at L (entry M T r s)) i) (λ r _ l. ne_eqb _ _ (λ e. at r (omega arith) e (ℕ_discrete (entry M T r s) 0)))
+    where
+      at : (r : ℕ) → r < N → input_at L (entry M T r s) ≡ i → Dec (entry M T r s ≡ 0) → ⊥
+      at r l e (yes z) = some (sym e ∙ rw (eq-eqb (entry M T r s) 0 z))
+      at r l e (no d) = h r l d (sym (input_at_flow L (entry M T r s) d) ∙ e)
 
   not_used : (s : ℕ) → input_used M N L T i s ≡ false → (r : ℕ) → r < N → (entry M T r s ≡ 0 → ⊥) → input_of L (entry M T r s) ≡ i → ⊥
   not_used s h r l d e =
-      eqb-false _ _ (somewhere_false 0 N (λ x. eqb (input_of L (entry M T x s)) i) h r (omega arith) (omega arith)) e
+      eqb-false _ _ (somewhere_false 0 N (λ x. eqb (input_at L (entry M T x s)) i) h r (omega arith) (omega arith)) (input_at_flow L (entry M T r s) d ∙ e)
 
   pub free_of_input : (s : ℕ) → s < M → ((r : ℕ) → r < N → (entry M T r s ≡ 0 → ⊥) → input_of L (entry M T r s) ≡ i → ⊥)
       → (free_of_input M N L T i < M)
@@ -117,8 +119,7 @@ module _ (w M N : ℕ) (L : List ℕ) (k : ℕ) (T : List ℕ) (room : N ≤ w) 
 
       counts : (x : ℕ) → IsFlow (one_cell_more L' k) x → times M N (put_cell w M N L k p q j T) x ≡ cells_of (one_cell_more L' k) x
       counts x fx =
-          put_times w M N L T k p q j room outs.0 ins.0 row_in len ports flow row_out
-          (placed_same same (placed_of acc)) outs.1 ins.1 x fx.at_least
+          put_times w M N L T k p q j room outs.0 ins.0 row_in len ports flow row_out (placed_same same (placed_of acc)) outs.1 ins.1 x fx.at_least
           ∙ at (ℕ_discrete x k)
         where
           was : times M N T x ≡ cells_of L' x
@@ -206,8 +207,7 @@ module _ (w M N : ℕ) (L : List ℕ) (k : ℕ) (T : List ℕ) (room : N ≤ w) 
 
 -- the step as the code goes: the row, the two slots, the run and the store, or no slot and the table as it was
 module _ (M N : ℕ) (L : List ℕ) (k : ℕ) (T : List ℕ) (may : MayAdd M N L k T) (out into first second : ℕ)
-    (out-is : out ≡ output_of L k) (first-is : first ≡ free_of_row M T (out - 1))
-    (into-is : into ≡ input_of L k) (second_is : second ≡ free_of_input M N L T into) where
+    (out-is : out ≡ output_of L k) (first-is : first ≡ free_of_row M T (out - 1)) (into-is : into ≡ input_of L k) (second_is : second ≡ free_of_input M N L T into) where
   first_slot : first ≡ out_slot M L k T
   first_slot = first-is ∙ ap (λ (x : ℕ). free_of_row M T (x - 1)) out-is
 
@@ -250,8 +250,7 @@ module _ (M N : ℕ) (L : List ℕ) (k : ℕ) (T : List ℕ) (may : MayAdd M N L
       ap (λ (t : List ℕ). entry M t r s) f
       ∙ stored_else M T' r s (out - 1) second k ls lq (λ _ x. d' x)
       ∙ ap (λ (t : List ℕ). entry M t r s) e
-      ∙ (turned_exchanged max_ports M N L T k first second (out - 1) h.ports_in_range.at_most lp lq
-      (omega (arith, out-is, o.at_least, o.at_most)) h.long_enough).others r s ls d d'
+      ∙ (turned_exchanged max_ports M N L T k first second (out - 1) h.ports_in_range.at_most lp lq (omega (arith, out-is, o.at_least, o.at_most)) h.long_enough).others r s ls d d'
 
   pub row_full : M ≤ first → CellAdded M N L k T T
   row_full l = subst (λ (x : List ℕ). CellAdded M N L k T x) (unless _ (le-ltb (out_slot M L k T) M (omega (arith, first_slot)))) whole

@@ -15,17 +15,16 @@ use Rattle.answers.proofs.Lowest.{lowest_found}
 use Rattle.answers.proofs.Ranges.{both_true}
 use Rattle.answers.specs.Sums.{one}
 use Rattle.answers.proofs.Sums.{sum_change, term_le}
-use Rattle.flows.specs.Flows.{input_of}
 use Rattle.tables.specs.Accepted.{entry}
-use Rattle.builder.specs.Exchange.{swapped, unseen, holds_next, next_row, from_input, run}
+use Rattle.builder.specs.Exchange.{input_at, swapped, unseen, holds_next, next_row, from_input, run}
 use Rattle.builder.proofs.Exchange.{Clean, Free, Ready, RowSwapped, RowMarked, q_clean_after, p_clean_after, ready_next, free_after}
 use Rattle.builder.proofs.Places.{same_row, same_slot, in_table, length-swapped, swapped-first, swapped_second, swapped_else}
 
 -- the input that row r holds at slot s; past the last row there is none
 abbrev pub who : ℕ → ℕ → List ℕ → List ℕ → ℕ → ℕ → ℕ
-who M N L T s r = cond (ltb r N) (input_of L (entry M T r s)) 0
+who M N L T s r = cond (ltb r N) (input_at L (entry M T r s)) 0
 
-pub who_in : (M N : ℕ) (L T : List ℕ) (s r : ℕ) → r < N → who M N L T s r ≡ input_of L (entry M T r s)
+pub who_in : (M N : ℕ) (L T : List ℕ) (s r : ℕ) → r < N → who M N L T s r ≡ input_at L (entry M T r s)
 who_in M N L T s r l = rw (lt-ltb r N l)
 
 pub who_out : (M N : ℕ) (L T : List ℕ) (s r : ℕ) → N ≤ r → who M N L T s r ≡ 0
@@ -84,20 +83,18 @@ unseen_some N marks r l e =
     omega (arith, term_le N (λ a. one (eqb (get_or marks a 0) 0)) r l, ap (λ (x : ℕ). one (eqb x 0)) e)
 
 -- what the tests of a row tell of the search
-pub next_here : (M : ℕ) (L marks : List ℕ) (s y : ℕ) (T : List ℕ) (r : ℕ)
-    → get_or marks r 0 ≡ 0 → input_of L (entry M T r s) ≡ y → holds_next M L marks s y T r ≡ true
+pub next_here : (M : ℕ) (L marks : List ℕ) (s y : ℕ) (T : List ℕ) (r : ℕ) → get_or marks r 0 ≡ 0 → input_at L (entry M T r s) ≡ y → holds_next M L marks s y T r ≡ true
 next_here M L marks s y T r m e = rw (eq-eqb _ _ m, eq-eqb _ _ e)
 
 pub next_not_seen : (M : ℕ) (L marks : List ℕ) (s y : ℕ) (T : List ℕ) (r : ℕ) → (get_or marks r 0 ≡ 0 → ⊥) → holds_next M L marks s y T r ≡ false
 next_not_seen M L marks s y T r d = rw (ne_eqb _ _ d)
 
-pub next_not_held : (M : ℕ) (L marks : List ℕ) (s y : ℕ) (T : List ℕ) (r : ℕ)
-    → get_or marks r 0 ≡ 0 → (input_of L (entry M T r s) ≡ y → ⊥) → holds_next M L marks s y T r ≡ false
+pub next_not_held : (M : ℕ) (L marks : List ℕ) (s y : ℕ) (T : List ℕ) (r : ℕ) → get_or marks r 0 ≡ 0 → (input_at L (entry M T r s) ≡ y → ⊥) → holds_next M L marks s y T r ≡ false
 next_not_held M L marks s y T r m d = rw (eq-eqb _ _ m, ne_eqb _ _ d)
 
 -- the row that is found is unseen and holds the input; where none is found, no unseen row holds it
 pub next_found : (M N : ℕ) (L marks : List ℕ) (s y : ℕ) (T : List ℕ) → next_row M N L marks s y T < N
-    → (get_or marks (next_row M N L marks s y T) 0 ≡ 0) × (input_of L (entry M T (next_row M N L marks s y T) s) ≡ y)
+    → (get_or marks (next_row M N L marks s y T) 0 ≡ 0) × (input_at L (entry M T (next_row M N L marks s y T) s) ≡ y)
 unfolding next_row
 next_found M N L marks s y T l =
     let found = (lowest_found 0 N (holds_next M L marks s y T)).there (omega arith) in
@@ -105,7 +102,7 @@ next_found M N L marks s y T l =
     (eqb-true _ _ both.0, eqb-true _ _ both.1)
 
 pub next_none : (M N : ℕ) (L marks : List ℕ) (s y : ℕ) (T : List ℕ) → N ≤ next_row M N L marks s y T
-    → (a : ℕ) → a < N → get_or marks a 0 ≡ 0 → input_of L (entry M T a s) ≡ y → ⊥
+    → (a : ℕ) → a < N → get_or marks a 0 ≡ 0 → input_at L (entry M T a s) ≡ y → ⊥
 unfolding next_row
 next_none M N L marks s y T l a la m e =
     true≢false (sym (next_here M L marks s y T a m e) ∙ (lowest_found 0 N (holds_next M L marks s y T)).none_lower a (omega arith) (omega arith))
@@ -157,14 +154,13 @@ module _ (M N : ℕ) (L : List ℕ) (p q : ℕ) (lp : p < M) (lq : q < M) where
             )
         at a (no d) = inl (other_row a p lp d, other_row a q lq d)
 
-    row_swapped : RowSwapped (who M N L T p) (who M N L T q)
-        (who M N L (swapped T (r * M + p) (r * M + q)) p) (who M N L (swapped T (r * M + p) (r * M + q)) q) r
+    row_swapped : RowSwapped (who M N L T p) (who M N L T q) (who M N L (swapped T (r * M + p) (r * M + q)) p) (who M N L (swapped T (r * M + p) (r * M + q)) q) r
     row_swapped =
         record {
-          at_p = ap (λ (e : ℕ). cond (ltb r N) (input_of L e) 0) there_p;
-          at_q = ap (λ (e : ℕ). cond (ltb r N) (input_of L e) 0) there_q;
-          else_p = λ a d. ap (λ (e : ℕ). cond (ltb a N) (input_of L e) 0) (other_row a p lp d);
-          else_q = λ a d. ap (λ (e : ℕ). cond (ltb a N) (input_of L e) 0) (other_row a q lq d);
+          at_p = ap (λ (e : ℕ). cond (ltb r N) (input_at L e) 0) there_p;
+          at_q = ap (λ (e : ℕ). cond (ltb r N) (input_at L e) 0) there_q;
+          else_p = λ a d. ap (λ (e : ℕ). cond (ltb a N) (input_at L e) 0) (other_row a p lp d);
+          else_q = λ a d. ap (λ (e : ℕ). cond (ltb a N) (input_at L e) 0) (other_row a q lq d);
         }
 
   pub row_marked : (marks : List ℕ) (r : ℕ) → r < length marks → RowMarked (mark_of marks) (mark_of (set marks r 1)) r
@@ -183,7 +179,7 @@ module _ (M N : ℕ) (L : List ℕ) (p q : ℕ) (lp : p < M) (lq : q < M) where
       T' = swapped T (r * M + p) (r * M + q)
 
       came : ℕ
-      came = input_of L (entry M T' r p)
+      came = input_at L (entry M T' r p)
 
       next : ℕ
       next = next_row M N L (set marks r 1) p came T'
@@ -253,7 +249,7 @@ module _ (M N : ℕ) (L : List ℕ) (p q : ℕ) (lp : p < M) (lq : q < M) where
       marks' = set marks r 1
 
       came : ℕ
-      came = input_of L (entry M T' r p)
+      came = input_at L (entry M T' r p)
 
       next : ℕ
       next = next_row M N L marks' p came T'
@@ -275,8 +271,7 @@ module _ (M N : ℕ) (L : List ℕ) (p q : ℕ) (lp : p < M) (lq : q < M) where
           let found = next_found M N L marks' p came T' l in
           let to = who_in M N L T' p next l ∙ found.1 ∙ sym (who_in M N L T' p r lr) in
           went_on r next marks T (run n M N L p q next marks' T') lr len lm' ready to
-          (later next l (ready_next _ _ _ _ _ _ r ready (row_swapped r T lr len)
-          (row_marked marks r lm') next found.0 (λ z. d (sym (who_in M N L T' p r lr) ∙ z)) to))
+          (later next l (ready_next _ _ _ _ _ _ r ready (row_swapped r T lr len) (row_marked marks r lm') next found.0 (λ z. d (sym (who_in M N L T' p r lr) ∙ z)) to))
       led false x d later = ended r marks T lr len lm' ready (λ _ a m y. nowhere d (ltb-false next N x) a m y)
 
       followed : (b : Bool) → eqb came 0 ≡ b → Later

@@ -1,5 +1,4 @@
--- What stays as rows exchange their entries at two slots: what each row holds, and how often each flow stands in the table.
--- And what one store does to the counts.
+-- What stays as rows exchange their entries at two slots: what each row holds, and how often each flow stands in the table. And what one store does to the counts.
 use Prim.Native.Nat.{ℕ, ◌+◌, ◌*◌, ◌≤◌, ◌<◌}
 use mathlib.Core.Path.{◌≡◌, sym, ◌∙◌, ap, subst}
 use mathlib.Core.Logic.{inl, inr}

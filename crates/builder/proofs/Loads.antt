@@ -1,5 +1,4 @@
--- A port that is asked for fewer cells than the frame has a slot free in an accepted table;
--- and a port is asked for fewer while a cell of one of its flows is not placed.
+-- A port that is asked for fewer cells than the frame has a slot free in an accepted table; and a port is asked for fewer while a cell of one of its flows is not placed.
 use Prim.Native.Nat.{ℕ, suc, ◌-◌, ◌/◌, ◌≤◌, ◌<◌}
 use mathlib.Core.Path.{◌≡◌, refl, sym, ◌∙◌, ap, subst}
 use mathlib.Core.Logic.{◌⊎◌, inl, inr}
@@ -79,12 +78,10 @@ module _ (L L' : List ℕ) (same : SameFlows L L') (k : ℕ) (flow : IsFlow L k)
   unfolding input_load
   input_less =
       load_less (λ x. comes_from L x (input_of L k)) (λ x. comes_from L' x (input_of L' k))
-      (λ x. ap (λ (y : ℕ). eqb y (input_of L' k)) (same.same_inputs x) ∙ ap (λ (y : ℕ). eqb (input_of L x) y) (same.same_inputs k))
-      (eq-eqb (input_of L k) (input_of L k) refl)
+      (λ x. ap (λ (y : ℕ). eqb y (input_of L' k)) (same.same_inputs x) ∙ ap (λ (y : ℕ). eqb (input_of L x) y) (same.same_inputs k)) (eq-eqb (input_of L k) (input_of L k) refl)
 
   pub output_less : output_load L' (output_of L' k) < output_load L (output_of L k)
   unfolding output_load
   output_less =
       load_less (λ x. goes_to L x (output_of L k)) (λ x. goes_to L' x (output_of L' k))
-      (λ x. ap (λ (y : ℕ). eqb y (output_of L' k)) (same.same_outputs x) ∙ ap (λ (y : ℕ). eqb (output_of L x) y) (same.same_outputs k))
-      (eq-eqb (output_of L k) (output_of L k) refl)
+      (λ x. ap (λ (y : ℕ). eqb y (output_of L' k)) (same.same_outputs x) ∙ ap (λ (y : ℕ). eqb (output_of L x) y) (same.same_outputs k)) (eq-eqb (output_of L k) (output_of L k) refl)

@@ -13,7 +13,7 @@ use lib.Seq.{get_or-set_same}
 use Rattle.answers.specs.Sums.{one}
 use Rattle.flows.specs.Flows.{IsFlow, input_of, output_of}
 use Rattle.tables.specs.Accepted.{entry, times, FlowOf}
-use Rattle.builder.specs.Exchange.{unseen, run}
+use Rattle.builder.specs.Exchange.{input_at, unseen, run}
 use Rattle.builder.specs.AddCell.{PortsInRange}
 use Rattle.builder.proofs.Exchange.{Clean, Free, Ready}
 use Rattle.builder.proofs.Places.{in_table, stored_else}
@@ -32,12 +32,21 @@ no_mark w a = go (dec_lt a w)
     go (yes l) = get_or-replicate w a 0 0 l
     go (no d) = get_or-eq_default (no_marks w) 0 {n = a} (omega (arith, length-replicate {A = ℕ} w 0))
 
+pub input_at_empty : (L : List ℕ) (e : ℕ) → e ≡ 0 → input_at L e ≡ 0
+input_at_empty L e z = rw (eq-eqb e 0 z)
+
+pub input_at_flow : (L : List ℕ) (e : ℕ) → (e ≡ 0 → ⊥) → input_at L e ≡ input_of L e
+input_at_flow L e d = rw (ne_eqb e 0 d)
+
 -- a slot at which no input stands twice is clean
 clean_of : (M N : ℕ) (L T : List ℕ) → Placed M N L T → (s : ℕ) → s < M → Clean (who M N L T s)
 clean_of M N L T h s ls a b n e = go (dec_lt a N) (dec_lt b N) (ℕ_discrete a b)
   where
     filled : (x : ℕ) → x < N → (who M N L T s x ≡ 0 → ⊥) → entry M T x s ≡ 0 → ⊥
-    filled x l m z = m (who_in M N L T s x l ∙ ap (input_of L) z)
+    filled x l m z = m (who_in M N L T s x l ∙ input_at_empty L (entry M T x s) z)
+
+    its_input : (x : ℕ) → x < N → (entry M T x s ≡ 0 → ⊥) → who M N L T s x ≡ input_of L (entry M T x s)
+    its_input x l d = who_in M N L T s x l ∙ input_at_flow L (entry M T x s) d
 
     go : Dec (a < N) → Dec (b < N) → Dec (a ≡ b) → a ≡ b
     go la lb (yes i) = i
@@ -46,16 +55,18 @@ clean_of M N L T h s ls a b n e = go (dec_lt a N) (dec_lt b N) (ℕ_discrete a b
     go (yes la) (yes lb) (no d) =
         let fa = filled a la n in
         let fb = filled b lb (λ z. n (e ∙ z)) in
-        absurd (h.input_once s a b ls la lb d fa fb (sym (who_in M N L T s a la) ∙ e ∙ who_in M N L T s b lb))
+        absurd (h.input_once s a b ls la lb d fa fb (sym (its_input a la fa) ∙ e ∙ its_input b lb fb))
 
 -- at a clean slot no input stands twice
 once_of : (M N : ℕ) (L T : List ℕ) → PortsInRange N L → ((r s : ℕ) → r < N → s < M → (entry M T r s ≡ 0) ⊎ FlowOf L (suc r) (entry M T r s))
     → (s a b : ℕ) → s < M → Clean (who M N L T s) → a < N → b < N → (a ≡ b → ⊥) → (entry M T a s ≡ 0 → ⊥) → (entry M T b s ≡ 0 → ⊥)
     → input_of L (entry M T a s) ≡ input_of L (entry M T b s) → ⊥
 once_of M N L T ports rows s a b ls clean la lb d fa fb e =
-    let wa = who_in M N L T s a la in
-    d (clean a b (λ z. some (rows a s la ls) (sym wa ∙ z)) (wa ∙ e ∙ sym (who_in M N L T s b lb)))
+    d (clean a b (λ z. some (rows a s la ls) (sym (its_input a la fa) ∙ z)) (its_input a la fa ∙ e ∙ sym (its_input b lb fb)))
   where
+    its_input : (x : ℕ) → x < N → (entry M T x s ≡ 0 → ⊥) → who M N L T s x ≡ input_of L (entry M T x s)
+    its_input x l f = who_in M N L T s x l ∙ input_at_flow L (entry M T x s) f
+
     some : (entry M T a s ≡ 0) ⊎ FlowOf L (suc a) (entry M T a s) → input_of L (entry M T a s) ≡ 0 → ⊥
     some (inl z) x = fa z
     some (inr f) x = omega (arith, (ports.inputs (entry M T a s) f.is_flow).at_least)
@@ -93,15 +104,15 @@ module _ (w M N : ℕ) (L T : List ℕ) (k p q j : ℕ) (room : N ≤ w) (lp : p
     some_input z = omega (arith, (ports.inputs k flow).at_least)
 
     empty_row : who M N L T p j ≡ 0
-    empty_row = who_in M N L T p j lj ∙ ap (input_of L) empty
+    empty_row = who_in M N L T p j lj ∙ input_at_empty L (entry M T j p) empty
 
     free_at_q : Free (who M N L T q) (input_of L k)
     free_at_q a e = go (dec_lt a N) (ℕ_discrete (entry M T a q) 0)
       where
         go : Dec (a < N) → Dec (entry M T a q ≡ 0) → ⊥
         go (no d) z = some_input (sym e ∙ who_out M N L T q a (omega arith))
-        go (yes l) (yes z) = some_input (sym e ∙ who_in M N L T q a l ∙ ap (input_of L) z)
-        go (yes l) (no d) = free a l d (sym (who_in M N L T q a l) ∙ e)
+        go (yes l) (yes z) = some_input (sym e ∙ who_in M N L T q a l ∙ input_at_empty L (entry M T a q) z)
+        go (yes l) (no d) = free a l d (sym (who_in M N L T q a l ∙ input_at_flow L (entry M T a q) d) ∙ e)
 
     start : Ready (who M N L T p) (who M N L T q) (mark_of (no_marks w)) j
     start =
@@ -132,7 +143,7 @@ module _ (w M N : ℕ) (L T : List ℕ) (k p q j : ℕ) (room : N ≤ w) (lp : p
         go (no c) (yes e) = subst (λ (t : ℕ). Clean (who M N L (turned w M N L p q j T) t)) (sym e) done.q_clean
         go (no c) (no d) =
             clean_alike (who M N L T s) (who M N L (turned w M N L p q j T) s) (clean_of M N L T placed s ls)
-            (λ a. ap (λ (e : ℕ). cond (ltb a N) (input_of L e) 0) (turned_exchanged.others a s ls c d))
+            (λ a. ap (λ (e : ℕ). cond (ltb a N) (input_at L e) 0) (turned_exchanged.others a s ls c d))
 
     put_there : entry M (put_cell w M N L k p q j T) j q ≡ k
     put_there = get_or-set_same (turned w M N L p q j T) (j * M + q) k 0 (in_table (turned w M N L p q j T) turned_length lj lq)
@@ -149,8 +160,7 @@ module _ (w M N : ℕ) (L T : List ℕ) (k p q j : ℕ) (room : N ≤ w) (lp : p
         go : Dec (r ≡ j) → Dec (s ≡ q) → (entry M (put_cell w M N L k p q j T) r s ≡ 0) ⊎ FlowOf L (suc r) (entry M (put_cell w M N L k p q j T) r s)
         go (yes i) (yes e) =
             inr (subst (λ (x : ℕ). FlowOf L (suc r) x)
-            (sym (ap (λ (a : ℕ). entry M (put_cell w M N L k p q j T) a s) i ∙ ap (λ (t : ℕ). entry M (put_cell w M N L k p q j T) j t) e ∙ put_there))
-            (its_row i))
+            (sym (ap (λ (a : ℕ). entry M (put_cell w M N L k p q j T) a s) i ∙ ap (λ (t : ℕ). entry M (put_cell w M N L k p q j T) j t) e ∙ put_there)) (its_row i))
         go (yes i) (no d) =
             subst (λ (x : ℕ). (x ≡ 0) ⊎ FlowOf L (suc r) x) (sym (put_else r s ls (λ _ e. d e))) (rows_turned r s lr ls)
         go (no d) e = subst (λ (x : ℕ). (x ≡ 0) ⊎ FlowOf L (suc r) x) (sym (put_else r s ls (λ i _. d i))) (rows_turned r s lr ls)
@@ -159,19 +169,22 @@ module _ (w M N : ℕ) (L T : List ℕ) (k p q j : ℕ) (room : N ≤ w) (lp : p
     clean_put s ls = go (ℕ_discrete s q)
       where
         own : who M N L (put_cell w M N L k p q j T) q j ≡ input_of L k
-        own = who_in M N L (put_cell w M N L k p q j T) q j lj ∙ ap (input_of L) put_there
+        own =
+            who_in M N L (put_cell w M N L k p q j T) q j lj
+            ∙ ap (λ (e : ℕ). input_at L e) put_there
+            ∙ input_at_flow L k (λ z. omega (arith, flow.at_least))
 
         at_q : Clean (who M N L (put_cell w M N L k p q j T) q)
         at_q =
             clean_more (who M N L (turned w M N L p q j T) q) (who M N L (put_cell w M N L k p q j T) q) j done.q_clean
             (λ a e. done.still_free (input_of L k) free_at_q (λ x. some_input (sym x ∙ empty_row)) a (e ∙ own))
-            (λ a d. ap (λ (e : ℕ). cond (ltb a N) (input_of L e) 0) (put_else a q lq (λ i _. d i)))
+            (λ a d. ap (λ (e : ℕ). cond (ltb a N) (input_at L e) 0) (put_else a q lq (λ i _. d i)))
 
         go : Dec (s ≡ q) → Clean (who M N L (put_cell w M N L k p q j T) s)
         go (yes e) = subst (λ (t : ℕ). Clean (who M N L (put_cell w M N L k p q j T) t)) (sym e) at_q
         go (no d) =
             clean_alike (who M N L (turned w M N L p q j T) s) (who M N L (put_cell w M N L k p q j T) s) (clean_turned s ls)
-            (λ a. ap (λ (e : ℕ). cond (ltb a N) (input_of L e) 0) (put_else a s ls (λ _ e. d e)))
+            (λ a. ap (λ (e : ℕ). cond (ltb a N) (input_at L e) 0) (put_else a s ls (λ _ e. d e)))
 
     pub put_placed : Placed M N L (put_cell w M N L k p q j T)
     put_placed =

@@ -20,8 +20,7 @@ use Rattle.builder.specs.InputMarks.{Marked}
 use Rattle.builder.specs.Filling.{emptied, SoFar, MayFill, FilledTo}
 use Rattle.builder.proofs.Places.{holds_same}
 use Rattle.builder.proofs.Loads.{input_less, output_less}
-use Rattle.builder.proofs.SameFlows.{same_self, same_back, same_on, with_cells_same, with_cells_there, with_cells_else, is_flow_same}
-use Rattle.builder.proofs.SameFlows.{placed_of, accepted_of, placed_same}
+use Rattle.builder.proofs.SameFlows.{same_self, same_back, same_on, with_cells_same, with_cells_there, with_cells_else, is_flow_same, placed_of, accepted_of, placed_same}
 
 -- the list with no cells for its first n flows
 cleared : ℕ → List ℕ → List ℕ
@@ -81,8 +80,7 @@ emptied_beyond T end = drop_at (replicate {A = ℕ} end 0) (drop end T) end (len
 module _ (M N : ℕ) (L : List ℕ) (k : ℕ) (flow : IsFlow L k) where
   -- a cell of flow k that is not yet placed finds both its ends with room, and is placed
   pub cell_so_far : PortsInRange N L → Fitting M N L → (c : ℕ) (T T' : List ℕ) → c < cells_of L k → SoFar M N L k c T
-      → ((L' : List ℕ) → SameFlows L L' → Accepted M N L' T → input_load L' (input_of L' k) < M
-      → output_load L' (output_of L' k) < M → Accepted M N (one_cell_more L' k) T')
+      → ((L' : List ℕ) → SameFlows L L' → Accepted M N L' T → input_load L' (input_of L' k) < M → output_load L' (output_of L' k) < M → Accepted M N (one_cell_more L' k) T')
       → SoFar M N L k (suc c) T'
   cell_so_far ports fit c T T' more s add =
       record {
@@ -163,12 +161,10 @@ one_more M N L k c T T' T'' U U' may flow more f add marked =
       beyond = add.beyond ∙ f.beyond;
     }
 
-pub flow_filled : (M N : ℕ) (L : List ℕ) (k c : ℕ) (T T' U : List ℕ) → IsFlow L k
-    → c ≡ cells_of L k → FilledTo M N L k c T T' U → FilledTo M N L (suc k) 0 T T' U
+pub flow_filled : (M N : ℕ) (L : List ℕ) (k c : ℕ) (T T' U : List ℕ) → IsFlow L k → c ≡ cells_of L k → FilledTo M N L k c T T' U → FilledTo M N L (suc k) 0 T T' U
 flow_filled M N L k c T T' U flow e f =
     record { so_far = flow_so_far M N L k flow T' (subst (λ (n : ℕ). SoFar M N L k n T') e f.so_far); marked = f.marked; beyond = f.beyond }
 
-pub one_flow_more : (M N : ℕ) (L : List ℕ) (k : ℕ) (T T' T'' U U' : List ℕ)
-    → FilledTo M N L k 0 T T' U → FilledTo M N L (suc k) 0 T' T'' U' → FilledTo M N L (k + 1) 0 T T'' U'
+pub one_flow_more : (M N : ℕ) (L : List ℕ) (k : ℕ) (T T' T'' U U' : List ℕ) → FilledTo M N L k 0 T T' U → FilledTo M N L (suc k) 0 T' T'' U' → FilledTo M N L (k + 1) 0 T T'' U'
 one_flow_more M N L k T T' T'' U U' f g =
     record { so_far = subst (λ (n : ℕ). SoFar M N L n 0 T'') (sym (add-one k)) g.so_far; marked = g.marked; beyond = g.beyond ∙ f.beyond }

@@ -12,11 +12,12 @@ use lib.Seq.{get_or-set_same}
 use Rattle.answers.specs.Limits.{Within}
 use Rattle.answers.proofs.Lowest.{lowest_agree, nowhere_test}
 use Rattle.answers.specs.Sums.{one}
-use Rattle.flows.specs.Flows.{input_of}
 use Rattle.tables.specs.Accepted.{entry}
 use Rattle.tables.specs.Check.{Holds}
+use Rattle.builder.specs.Exchange.{input_at}
 use Rattle.builder.specs.FreeSlots.{empty_at, input_used, free_of_row, free_of_input}
 use Rattle.builder.specs.InputMarks.{MarkedAt, Marked, Remarked}
+use Rattle.builder.proofs.Placing.{input_at_empty}
 use Rattle.builder.proofs.Places.{holds_same, stored_else}
 
 -- the marks of the first inputs at a slot are made
@@ -28,8 +29,7 @@ module _ (M N : ℕ) (L T : List ℕ) (slot : ℕ) (ls : slot < M) (U : List ℕ
   pub marked_none : MarkedTo M N L T slot 0 U U
   marked_none = record { done = λ r u. absurd (omega arith); elsewhere = λ r s l d. refl }
 
-  pub marked_more : (row : ℕ) (U' : List ℕ) (b : Bool) (v : ℕ) → row * M + slot < length U'
-      → b ≡ input_used M N L T (row + 1) slot → v ≡ one b → MarkedTo M N L T slot row U U'
+  pub marked_more : (row : ℕ) (U' : List ℕ) (b : Bool) (v : ℕ) → row * M + slot < length U' → b ≡ input_used M N L T (row + 1) slot → v ≡ one b → MarkedTo M N L T slot row U U'
       → MarkedTo M N L T slot (row + 1) U (set U' (row * M + slot) v)
   marked_more row U' b v in_List e f m =
       record {
@@ -72,8 +72,8 @@ module _ (M N : ℕ) (L T T' U U' U'' : List ℕ) (p q : ℕ)
   used_same : (i s : ℕ) → s < M → (s ≡ p → ⊥) → (s ≡ q → ⊥) → input_used M N L T i s ≡ input_used M N L T' i s
   used_same i s l d d' =
       ap (λ (n : ℕ). ltb n (0 + N))
-      (lowest_agree 0 N (λ r. eqb (input_of L (entry M T r s)) i) (λ r. eqb (input_of L (entry M T' r s)) i)
-      (λ r _ u. ap (λ (e : ℕ). eqb (input_of L e) i) (sym (same r s l d d'))))
+      (lowest_agree 0 N (λ r. eqb (input_at L (entry M T r s)) i) (λ r. eqb (input_at L (entry M T' r s)) i)
+      (λ r _ u. ap (λ (e : ℕ). eqb (input_at L e) i) (sym (same r s l d d'))))
 
   kept : (s : ℕ) → s < M → (s ≡ q → ⊥) → MarkedAt M N L T' U' s → MarkedAt M N L T' U'' s
   kept s l d m i w = ap (λ (e : ℕ). eqb e 0) (second.elsewhere (i - 1) s l d) ∙ m i w
@@ -93,8 +93,7 @@ module _ (M N : ℕ) (L T T' U U' U'' : List ℕ) (p q : ℕ)
           (λ i w. ap (λ (e : ℕ). eqb e 0) (first.elsewhere (i - 1) s l c) ∙ marked.at_slots s l i w ∙ ap not (used_same i s l c d))
 
 -- an empty table has empty marks
-pub marked_empty : (M N : ℕ) (L T U : List ℕ) → Holds M N U
-    → ((r s : ℕ) → r < N → s < M → entry M T r s ≡ 0) → ((r s : ℕ) → entry M U r s ≡ 0) → Marked M N L T U
+pub marked_empty : (M N : ℕ) (L T U : List ℕ) → Holds M N U → ((r s : ℕ) → r < N → s < M → entry M T r s ≡ 0) → ((r s : ℕ) → entry M U r s ≡ 0) → Marked M N L T U
 marked_empty M N L T U room empty none =
     record {
       room = room;
@@ -103,5 +102,5 @@ marked_empty M N L T U room empty none =
   where
     unused : (s : ℕ) → s < M → (i : ℕ) → Within 1 N i → input_used M N L T i s ≡ false
     unused s l i w =
-        nowhere_test 0 N (λ r. eqb (input_of L (entry M T r s)) i)
-        (λ r _ u. ne_eqb (input_of L (entry M T r s)) i (λ e. omega (arith, w.at_least, ap (input_of L) (empty r s (omega arith) l))))
+        nowhere_test 0 N (λ r. eqb (input_at L (entry M T r s)) i)
+        (λ r _ u. ne_eqb (input_at L (entry M T r s)) i (λ e. omega (arith, w.at_least, input_at_empty L (entry M T r s) (empty r s (omega arith) l))))

@@ -1,5 +1,5 @@
 -- Lists of the same flows: what is said of a table without its counts holds for one if it holds for the other.
-use Prim.Native.Nat.{ℕ, zero, suc, ◌+◌, ◌-◌, ◌*◌, ◌/◌, ◌≤◌, ◌<◌}
+use Prim.Native.Nat.{ℕ, suc, ◌+◌, ◌-◌, ◌*◌, ◌/◌, ◌≤◌, ◌<◌}
 use mathlib.Core.Path.{◌≡◌, refl, sym, ◌∙◌, ap}
 use mathlib.Core.Logic.{◌⊎◌, inl, inr}
 use mathlib.Core.List.{List}
@@ -8,7 +8,7 @@ use lib.Dec.{eqb}
 use lib.ListN.{length-set}
 use lib.Seq.{get_or-set_same, get_or-set_other}
 use Rattle.answers.specs.Sums.{one}
-use Rattle.flows.specs.Flows.{per_flow, IsFlow, number_of, input_of, cells_of}
+use Rattle.flows.specs.Flows.{per_flow, IsFlow, input_of, cells_of}
 use Rattle.tables.specs.Accepted.{entry, times, FlowOf, Accepted}
 use Rattle.builder.specs.AddCell.{with_cells, SameFlows, PortsInRange}
 
@@ -27,28 +27,20 @@ same_on s t =
       same_outputs = λ k. t.same_outputs k ∙ s.same_outputs k;
     }
 
--- other cells for a flow leave the other numbers of the list as they are
-other_number : (L : List ℕ) (k c x place : ℕ) → (per_flow * k + 2 ≡ per_flow * (x - 1) + place → ⊥)
-    → number_of (with_cells L (suc k) c) x place ≡ number_of L x place
-other_number L k c zero place d = refl
-other_number L k c (suc x) place d = get_or-set_other L (per_flow * k + 2) (per_flow * x + place) c 0 (λ e. d (omega arith))
-
+-- other cells for a flow leave the flows as they are
 pub with_cells_same : (L : List ℕ) (k c : ℕ) → SameFlows L (with_cells L k c)
-with_cells_same L zero c = same_self L
-with_cells_same L (suc k) c =
+with_cells_same L k c =
     record {
-      same_length = length-set L (per_flow * k + 2) c;
-      same_inputs = λ x. other_number L k c x 0 (λ e. omega arith);
-      same_outputs = λ x. other_number L k c x 1 (λ e. omega arith);
+      same_length = length-set L (per_flow * (k - 1) + 2) c;
+      same_inputs = λ x. get_or-set_other L (per_flow * (k - 1) + 2) (per_flow * (x - 1)) c 0 (λ e. omega arith);
+      same_outputs = λ x. get_or-set_other L (per_flow * (k - 1) + 2) (per_flow * (x - 1) + 1) c 0 (λ e. omega arith);
     }
 
 pub with_cells_there : (L : List ℕ) (k c : ℕ) → IsFlow L k → cells_of (with_cells L k c) k ≡ c
-with_cells_there L zero c f = absurd (omega (arith, f.at_least))
-with_cells_there L (suc k) c f = get_or-set_same L (per_flow * k + 2) c 0 (omega (arith, f.at_most))
+with_cells_there L k c f = get_or-set_same L (per_flow * (k - 1) + 2) c 0 (omega (arith, f.at_least, f.at_most))
 
 pub with_cells_else : (L : List ℕ) (k c x : ℕ) → IsFlow L k → 1 ≤ x → (x ≡ k → ⊥) → cells_of (with_cells L k c) x ≡ cells_of L x
-with_cells_else L zero c x f l d = refl
-with_cells_else L (suc k) c x f l d = other_number L k c x 2 (λ e. d (omega arith))
+with_cells_else L k c x f l d = get_or-set_other L (per_flow * (k - 1) + 2) (per_flow * (x - 1) + 2) c 0 (λ e. d (omega (arith, f.at_least)))
 
 pub is_flow_same : {L L' : List ℕ} → SameFlows L L' → (k : ℕ) → IsFlow L' k → IsFlow L k
 is_flow_same s k f = record { at_least = f.at_least; at_most = omega (arith, f.at_most, ap (λ (n : ℕ). n / 3) s.same_length) }
@@ -56,8 +48,7 @@ is_flow_same s k f = record { at_least = f.at_least; at_most = omega (arith, f.a
 -- accepted but for the counts
 pub record Placed (M N : ℕ) (L T : List ℕ) : Type 0 where
   pub of_its_row : (r s : ℕ) → r < N → s < M → (entry M T r s ≡ 0) ⊎ FlowOf L (suc r) (entry M T r s)
-  pub input_once : (s a b : ℕ) → s < M → a < N → b < N → (a ≡ b → ⊥) → (entry M T a s ≡ 0 → ⊥) → (entry M T b s ≡ 0 → ⊥)
-      → input_of L (entry M T a s) ≡ input_of L (entry M T b s) → ⊥
+  pub input_once : (s a b : ℕ) → s < M → a < N → b < N → (a ≡ b → ⊥) → (entry M T a s ≡ 0 → ⊥) → (entry M T b s ≡ 0 → ⊥) → input_of L (entry M T a s) ≡ input_of L (entry M T b s) → ⊥
 
 pub placed_of : {M N : ℕ} {L T : List ℕ} → Accepted M N L T → Placed M N L T
 placed_of h = record { of_its_row = h.of_its_row; input_once = h.input_once }

@@ -1,14 +1,13 @@
 -- One more cell of a flow: what the step that a build repeats promises.
-use Rattle.std.specs.Prelude.{ℕ, zero, suc, ◌+◌, ◌*◌, ◌≤◌, ◌<◌, ◌≡◌, List, length, drop, set}
+use Rattle.std.specs.Prelude.{ℕ, suc, ◌+◌, ◌-◌, ◌*◌, ◌≤◌, ◌<◌, ◌≡◌, List, length, drop, set}
 use Rattle.answers.specs.Limits.{max_flows, Within}
 use Rattle.flows.specs.Flows.{per_flow, flow_count, IsFlow, input_of, output_of, cells_of, input_load, output_load}
 use Rattle.tables.specs.Accepted.{entry, Accepted}
 use Rattle.tables.specs.Check.{Holds}
 
--- the list with c cells for flow k; there is no flow 0, and for it the list stays
+-- the list with c cells for flow k
 abbrev pub with_cells : List ℕ → ℕ → ℕ → List ℕ
-with_cells L zero c = L
-with_cells L (suc k) c = set L (per_flow * k + 2) c
+with_cells L k c = set L (per_flow * (k - 1) + 2) c
 
 -- the list with one more cell of flow k
 abbrev pub one_cell_more : List ℕ → ℕ → List ℕ
@@ -42,7 +41,6 @@ pub record InTwoSlots (M N : ℕ) (before after : List ℕ) : Type 0 where
 
 -- one cell of flow k was added; whatever cells the table held, if it was accepted for them and neither end of the flow is full, it is accepted for one more
 pub record CellAdded (M N : ℕ) (L : List ℕ) (k : ℕ) (before after : List ℕ) : Type 0 where
-  pub accepted : (L' : List ℕ) → SameFlows L L' → Accepted M N L' before
-      → input_load L' (input_of L' k) < M → output_load L' (output_of L' k) < M → Accepted M N (one_cell_more L' k) after
+  pub accepted : (L' : List ℕ) → SameFlows L L' → Accepted M N L' before → input_load L' (input_of L' k) < M → output_load L' (output_of L' k) < M → Accepted M N (one_cell_more L' k) after
   pub in_two_slots : InTwoSlots M N before after
   pub beyond : drop (N * M) after ≡ drop (N * M) before

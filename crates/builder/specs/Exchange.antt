@@ -1,11 +1,14 @@
 -- The exchange, as tables: the run goes from an output's row to an input, and from that input to the next row that holds it.
--- An entry e stands for a cell of input `input_of L e`. Of an empty entry that is 0, which is no input's number.
 use Rattle.std.specs.Prelude.{ℕ, zero, suc, ◌+◌, ◌*◌, ◌<◌, ◌≡◌, Bool, cond, ◌&&◌, List, get_or, set, eqb, ltb}
 use Rattle.answers.specs.Lowest.{lowest}
 use Rattle.answers.specs.Sums.{sum, one}
 use Rattle.flows.specs.Flows.{input_of}
 use Rattle.tables.specs.Accepted.{entry}
 use Rattle.tables.specs.Check.{Holds}
+
+-- the input whose flow an entry names; an empty entry has 0, which is no input's number
+abbrev pub input_at : List ℕ → ℕ → ℕ
+input_at L e = cond (eqb e 0) 0 (input_of L e)
 
 -- the table with what stands at two places exchanged
 abbrev pub swapped : List ℕ → ℕ → ℕ → List ℕ
@@ -17,7 +20,7 @@ unseen N marks = sum N (λ r. one (eqb (get_or marks r 0) 0))
 
 -- row r is not yet seen and holds input y at slot s
 abbrev pub holds_next : ℕ → List ℕ → List ℕ → ℕ → ℕ → List ℕ → ℕ → Bool
-holds_next M L marks s y T r = eqb (get_or marks r 0) 0 && eqb (input_of L (entry M T r s)) y
+holds_next M L marks s y T r = eqb (get_or marks r 0) 0 && eqb (input_at L (entry M T r s)) y
 
 -- the row to which input y leads from slot s, and N where it leads to none
 unfoldable pub next_row : ℕ → ℕ → List ℕ → List ℕ → ℕ → ℕ → List ℕ → ℕ
@@ -32,7 +35,7 @@ unfoldable pub run : ℕ → ℕ → ℕ → List ℕ → ℕ → ℕ → ℕ �
 run zero M N L p q r marks T = T
 run (suc n) M N L p q r marks T =
     let T' : List ℕ = swapped T (r * M + p) (r * M + q) in
-    let y : ℕ = input_of L (entry M T' r p) in
+    let y : ℕ = input_at L (entry M T' r p) in
     cond (eqb y 0) T'
     (from_input (λ row. run n M N L p q row (set marks r 1) T') N (next_row M N L (set marks r 1) p y T') T')
 

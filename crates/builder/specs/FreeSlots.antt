@@ -1,8 +1,8 @@
 -- The slots that a new cell starts from: the first that its output has free, and the first that its input has free.
 use Rattle.std.specs.Prelude.{ℕ, Bool, not, List, eqb}
 use Rattle.answers.specs.Lowest.{lowest, holds_somewhere}
-use Rattle.flows.specs.Flows.{input_of}
 use Rattle.tables.specs.Accepted.{entry}
+use Rattle.builder.specs.Exchange.{input_at}
 
 -- row r is empty at slot s
 abbrev pub empty_at : ℕ → List ℕ → ℕ → ℕ → Bool
@@ -10,7 +10,7 @@ empty_at M T r s = eqb (entry M T r s) 0
 
 -- some row holds a flow of input i at slot s
 abbrev pub input_used : ℕ → ℕ → List ℕ → List ℕ → ℕ → ℕ → Bool
-input_used M N L T i s = holds_somewhere 0 N (λ r. eqb (input_of L (entry M T r s)) i)
+input_used M N L T i s = holds_somewhere 0 N (λ r. eqb (input_at L (entry M T r s)) i)
 
 -- the first slot at which row r is empty, and M where there is none
 unfoldable pub free_of_row : ℕ → List ℕ → ℕ → ℕ

@@ -7,8 +7,6 @@ use crate::slots::{free_of_input, free_of_row, mark_slot};
 use answers::MAX_PORTS;
 
 // Adds one cell of the flow, if its output and its input have a slot free each, and keeps the marks of the inputs right.
-// In a build both tests hold: the loads fit, so an end that has a cell to come has a slot free. They stay because they cost nothing beside
-// the searches, and because with them nothing need be known of the loads: where an end is full, nothing is touched.
 pub fn add_cell(
     frame: usize,
     ports: usize,

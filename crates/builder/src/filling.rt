@@ -27,8 +27,7 @@ fn fill_flow(
     used: &mut [u8],
     flow: usize,
 )
-    requires { MayFill frame ports list.now table.old × IsFlow list.now flow
-        × SoFar frame ports list.now flow 0 table.old × Marked frame ports list.now table.old used.old }
+    requires { MayFill frame ports list.now table.old × IsFlow list.now flow × SoFar frame ports list.now flow 0 table.old × Marked frame ports list.now table.old used.old }
     ensures { FilledTo frame ports list.now (suc flow) 0 table.old table.new used.new }
 {
     let cells = flows::cells_of(list, flow);
@@ -41,10 +40,8 @@ fn fill_flow(
 
 // Places all flows in an empty table; the marks of the inputs, empty too, are kept right on the way.
 pub fn fill(frame: usize, ports: usize, list: &[u16], table: &mut [u8], used: &mut [u8])
-    requires { MayFill frame ports list.now table.old
-        × SoFar frame ports list.now 1 0 table.old × Marked frame ports list.now table.old used.old }
-    ensures { FilledTo frame ports list.now (suc (flow_count list.now)) 0
-        table.old table.new used.new }
+    requires { MayFill frame ports list.now table.old × SoFar frame ports list.now 1 0 table.old × Marked frame ports list.now table.old used.old }
+    ensures { FilledTo frame ports list.now (suc (flow_count list.now)) 0 table.old table.new used.new }
 {
     let last = flows::flow_count(list);
     let mut flow = 1;

@@ -1,17 +1,16 @@
 // The builder: one cell placed by the exchange, and the build that repeats it.
-ghost use Rattle.std.specs.Prelude.{◌≡◌, ◌≤◌};
-ghost use Rattle.answers.specs.Limits.{max_ports, max_frame};
-ghost use Rattle.builder.specs.Build.{load_answer, Built};
-
-use crate::filling::{clear, fill};
-use answers::{
-    Answer, DONE, INPUT_OVERLOADED, MAX_FRAME, MAX_PORTS, OUTPUT_OVERLOADED, TABLE_TOO_SHORT,
-};
-
 mod cell;
 mod filling;
 mod run;
 mod slots;
+
+ghost use Rattle.std.specs.Prelude.{◌≡◌, ◌≤◌};
+ghost use Rattle.answers.specs.Limits.{max_ports, max_frame};
+ghost use Rattle.builder.specs.Build.{load_answer, Built};
+
+use answers::{
+    Answer, DONE, INPUT_OVERLOADED, MAX_FRAME, MAX_PORTS, OUTPUT_OVERLOADED, TABLE_TOO_SHORT,
+};
 
 // Refusals 5, 6 and 7, or done.
 fn load_answer(frame: usize, ports: usize, list: &[u16], length: usize) -> Answer
@@ -29,7 +28,7 @@ fn load_answer(frame: usize, ports: usize, list: &[u16], length: usize) -> Answe
     if length < ports * frame {
         return answers::refusal(TABLE_TOO_SHORT);
     }
-    answers::done()
+    answers::refusal(DONE)
 }
 
 // Builds an accepted table for the list, or refuses and leaves the table as it was: nothing is written before the loads are known to fit.
@@ -44,8 +43,8 @@ pub fn build(frame: usize, ports: usize, list: &[u16], table: &mut [u8]) -> Answ
     if loaded.number != DONE {
         return loaded;
     }
-    clear(table, ports * frame);
+    filling::clear(table, ports * frame);
     let mut used = [0u8; MAX_PORTS * MAX_FRAME];
-    fill(frame, ports, list, table, &mut used);
+    filling::fill(frame, ports, list, table, &mut used);
     loaded
 }

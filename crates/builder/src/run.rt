@@ -3,6 +3,7 @@ ghost use Rattle.std.specs.Prelude.{◌≡◌, ◌<◌, length};
 ghost use Rattle.tables.specs.Check.{Holds};
 ghost use Rattle.builder.specs.Exchange.{swapped, next_row, output_side, input_side, SlotsIn, RowNext};
 
+use crate::slots::input_at;
 use answers::MAX_PORTS;
 
 // Exchanges what stands at two places.
@@ -31,7 +32,7 @@ fn row_holding(
     let mut row = 0;
     while row < ports {
         if marks[row] == 0 {
-            if flows::input_of(list, table[row * frame + slot] as usize) == input {
+            if input_at(list, table[row * frame + slot]) == input {
                 return row;
             }
         }
@@ -40,8 +41,7 @@ fn row_holding(
     row
 }
 
-// The output side: the row exchanges its entries at the two slots, and the input that came to the first is followed. It is 0 where the entry
-// is empty, since there is no flow 0.
+// The output side: the row exchanges its entries at the two slots, and the input that came to the first is followed.
 #[cycle(input_side_output_side)]
 pub fn output_side(
     frame: usize,
@@ -58,7 +58,7 @@ pub fn output_side(
 {
     let start = row * frame;
     swap_places(table, start + first, start + second);
-    let input = flows::input_of(list, table[start + first] as usize);
+    let input = input_at(list, table[start + first]);
     if input != 0 {
         let mut seen = marks;
         seen[row] = 1;

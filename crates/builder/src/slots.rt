@@ -3,8 +3,25 @@ ghost use Rattle.std.specs.Prelude.{◌≡◌, ◌+◌, ◌*◌, ◌<◌, ◌≤
 ghost use Rattle.answers.specs.Limits.{Within};
 ghost use Rattle.answers.specs.Sums.{one};
 ghost use Rattle.tables.specs.Check.{Holds};
+ghost use Rattle.builder.specs.Exchange.{input_at};
 ghost use Rattle.builder.specs.FreeSlots.{input_used, free_of_row, free_of_input};
 ghost use Rattle.builder.specs.InputMarks.{Marked, Remarked};
+
+fn wide(x: u8) -> usize
+    ensures { result ≡ x }
+{
+    x as usize
+}
+
+// The input whose flow an entry names, and 0 for an empty entry.
+pub fn input_at(list: &[u16], flow: u8) -> usize
+    ensures { result ≡ input_at list.now flow }
+{
+    if flow == 0 {
+        return 0;
+    }
+    flows::input_of(list, wide(flow))
+}
 
 // The first slot at which the row is empty, or the frame.
 pub fn free_of_row(frame: usize, table: &[u8], row: usize) -> usize
@@ -36,7 +53,7 @@ fn input_used(
 {
     let mut row = 0;
     while row < ports {
-        if flows::input_of(list, table[row * frame + slot] as usize) == input {
+        if input_at(list, table[row * frame + slot]) == input {
             return true;
         }
         row += 1;

@@ -19,15 +19,6 @@ pub fn fill_words(state: u64, words: &mut [u16], count: usize, lowest: usize, n:
     s
 }
 
-// Stores the three numbers of the flow after so many.
-pub fn store_flow(list: &mut [u16], passed: usize, input: usize, output: usize, cells: usize)
-    requires { passed < 1000000 }
-{
-    store_word(list, 3 * passed, input);
-    store_word(list, 3 * passed + 1, output);
-    store_word(list, 3 * passed + 2, cells);
-}
-
 // One time in so many puts a number at the edges into one of the first places.
 pub fn damage_at_edges(
     state: u64,

@@ -1,8 +1,7 @@
 // A list of two flows and a table that is likely theirs, so that the check also says done and names a slot.
 ghost use Rattle.std.specs.Prelude.{◌<◌};
 
-use crate::buffers::store_byte;
-use crate::filling::store_flow;
+use crate::buffers::{store_byte, store_word};
 use crate::line::write_answer;
 use crate::sequence::{one_to, pick};
 
@@ -15,7 +14,9 @@ fn fill_flow(state: u64, list: &mut [u16], passed: usize, frame: usize) -> u64
 {
     let input = one_to(state, 2);
     let cells = one_to(input.state, frame);
-    store_flow(list, passed, input.value, passed + 1, cells.value);
+    store_word(list, 3 * passed, input.value);
+    store_word(list, 3 * passed + 1, passed + 1);
+    store_word(list, 3 * passed + 2, cells.value);
     cells.state
 }
 

@@ -47,17 +47,12 @@ pub fn named(line: &mut [u8], name: &[u8]) -> usize {
     put(line, 0, name)
 }
 
-// Puts an answer after a space.
-pub fn put_answer(line: &mut [u8], at: usize, answer: Answer) -> usize {
-    let comma = put_after(line, at, b" ", answer.number as u64);
-    let detail = put(line, comma, b",");
-    put_detail(line, detail, answer.detail)
-}
-
 // Begins a line with the name of a call and its answer.
 pub fn answered(line: &mut [u8], name: &[u8], answer: Answer) -> usize {
-    let at = named(line, name);
-    put_answer(line, at, answer)
+    let number = named(line, name);
+    let comma = put_after(line, number, b" ", answer.number as u64);
+    let detail = put(line, comma, b",");
+    put_detail(line, detail, answer.detail)
 }
 
 // Puts a digest, or another number, after a space.

@@ -1,10 +1,8 @@
 // Makes calls from a fixed sequence of numbers and prints a line for each, so that another program that makes the same calls can be compared.
 mod buffers;
-mod build_calls;
 mod cycle_calls;
 mod digest;
 mod filling;
-mod full_lists;
 mod likely_calls;
 mod line;
 mod link_sets;
@@ -116,9 +114,6 @@ fn further_calls(
     }
     if round % 8 == 2 {
         return cycled_and_run(state);
-    }
-    if round % 16 == 7 {
-        return build_calls::build(state);
     }
     state
 }

@@ -71,7 +71,7 @@ pub fn trd(state: u64) -> u64 {
     let sld = edge(tm.state, &TIMES);
     write_answer(
         b"trd",
-        trd::least_trd(depth.value, nodes.value, sig.value, tm.value, sld.value),
+        cycles::least_trd(depth.value, nodes.value, sig.value, tm.value, sld.value),
     );
     sld.state
 }

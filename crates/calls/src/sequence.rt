@@ -2,9 +2,8 @@
 ghost use Rattle.std.specs.Prelude.{◌<◌, ◌≤◌};
 
 use answers::{
-    MAX_CYCLE_LINKS, MAX_CYCLES, MAX_DELAY, MAX_DEPTH, MAX_FLOWS, MAX_FRAME, MAX_MESSAGES, MAX_TIME,
+    MAX_CYCLE_LINKS, MAX_CYCLES, MAX_DELAY, MAX_DEPTH, MAX_FRAME, MAX_MESSAGES, MAX_TIME,
 };
-use flows::PER_FLOW;
 use margins::CARRIED_BITS;
 
 // The numbers at the edges of each range, and past them.
@@ -151,22 +150,6 @@ pub const TIMES: [usize; 10] = [
     4000000000,
 ];
 
-pub const NUMBERS: [usize; 10] = [
-    0,
-    1,
-    2,
-    3,
-    5,
-    24,
-    PER_FLOW * MAX_FLOWS - 1,
-    PER_FLOW * MAX_FLOWS,
-    PER_FLOW * MAX_FLOWS + 1,
-    PER_FLOW * MAX_FLOWS + PER_FLOW,
-];
-
-// Where the digits of a text stand if each of its numbers has one digit.
-pub const DIGITS: [usize; 10] = [6, 14, 21, 23, 25, 32, 34, 36, 43, 45];
-
 // What a choice hands back: the state after it, and what was chosen.
 #[derive(Drop)]
 pub struct Picked {
@@ -263,25 +246,18 @@ pub fn some_or_all(state: u64, times: usize, all: usize) -> Picked
     pick_or(state, times, all + 1, all)
 }
 
-// One time in so many a number at the edges, else a number that is given.
-pub fn edge_or(state: u64, times: usize, edges: &[usize; 10], given: usize) -> Picked
-    requires { 0 < times }
-{
-    let p = pick(state, times);
-    if p.value == 0 {
-        return edge(p.state, edges);
-    }
-    Picked {
-        state: p.state,
-        value: given,
-    }
-}
-
 // How many waiting counts are lent: one time in so many a number at the edges, else 10.
 pub fn counts_lent(state: u64, times: usize) -> Picked
     requires { 0 < times }
 {
-    edge_or(state, times, &COUNTS, 10)
+    let p = pick(state, times);
+    if p.value == 0 {
+        return edge(p.state, &COUNTS);
+    }
+    Picked {
+        state: p.state,
+        value: 10,
+    }
 }
 
 // A whole list of up to eight flows.

@@ -1,12 +1,11 @@
 // The fills of the list and of the table, and the calls that read them.
 ghost use Rattle.std.specs.Prelude.{◌<◌, ◌≤◌};
 
-use crate::buffers::{TABLE, bytes_within, store_byte, words_within};
+use crate::buffers::{TABLE, bytes_within, store_byte, store_word, words_within};
 use crate::digest::{of_bytes, of_words};
-use crate::filling::{damage_anyhow, store_flow};
+use crate::filling::damage_anyhow;
 use crate::line::{write_digest, write_two};
 use crate::sequence::{frame, numbers_lent, one_to, pick, ports, some_or_all};
-use answers::{MAX_FRAME, MAX_PORTS};
 
 // Eight flows of three numbers.
 pub const LIST_SHOWN: usize = 24;
@@ -24,7 +23,9 @@ fn fill_flow(state: u64, list: &mut [u16], passed: usize, ports: usize, frame: u
     let input = one_to(state, ports);
     let output = one_to(input.state, ports);
     let cells = one_to(output.state, frame);
-    store_flow(list, passed, input.value, output.value, cells.value);
+    store_word(list, 3 * passed, input.value);
+    store_word(list, 3 * passed + 1, output.value);
+    store_word(list, 3 * passed + 2, cells.value);
     cells.state
 }
 
@@ -84,16 +85,10 @@ fn plan_entries(state: u64, table: &mut [u8], entries: usize) -> u64 {
     s
 }
 
-// How many entries a table has; none where frame or ports are too large for a table.
-pub fn entries(frame: usize, ports: usize) -> usize
-    ensures { result ≤ 65536 }
+// How many entries a small table has.
+fn entries(frame: usize, ports: usize) -> usize
+    requires { (frame ≤ 8) × (ports ≤ 4) }
 {
-    if MAX_FRAME < frame {
-        return 0;
-    }
-    if MAX_PORTS < ports {
-        return 0;
-    }
     ports * frame
 }
 

@@ -2,26 +2,13 @@
 use crate::buffers::{bytes_within, store_byte, words_within};
 use crate::digest::of_bytes;
 use crate::line::{answered, put_after, put_word, write_one};
-use crate::sequence::{DIGITS, Picked, edge, frame, numbers_lent, pick, ports};
+use crate::sequence::{Picked, frame, numbers_lent, pick, ports};
 use crate::table_calls::{LIST_SHOWN, list_digest};
-use answers::{Answer, MAX_TEXT};
+use answers::Answer;
 use plan_text::reading::Plan;
 
 // The front of the text, where all is written and read.
 const TEXT_SHOWN: usize = 200;
-
-// Any part of the text's front; one time in 16 about as much as a text may have.
-fn any_bytes(state: u64) -> Picked {
-    let long = pick(state, 16);
-    if long.value != 0 {
-        return pick(long.state, TEXT_SHOWN);
-    }
-    let more = pick(long.state, 10);
-    Picked {
-        state: more.state,
-        value: MAX_TEXT - 4 + more.value,
-    }
-}
 
 // How much of the text is read after it was written: what was written, or any part.
 fn bytes_to_read(state: u64, answer: Answer) -> Picked {
@@ -31,7 +18,7 @@ fn bytes_to_read(state: u64, answer: Answer) -> Picked {
             value: answers::magnitude(answer.detail) as usize,
         };
     }
-    any_bytes(state)
+    pick(state, TEXT_SHOWN)
 }
 
 // Writes the list as a plan text, and hands back how much of it is to be read.
@@ -48,32 +35,16 @@ pub fn write(state: u64, list: &[u16], text: &mut [u8]) -> Picked {
     bytes_to_read(room.state, answer)
 }
 
-// Puts any byte anywhere into the text's front.
-fn spoil_anywhere(state: u64, text: &mut [u8]) -> u64 {
-    let place = pick(state, TEXT_SHOWN);
+// One time in four puts any byte anywhere into the text's front.
+fn spoil(state: u64, text: &mut [u8]) -> u64 {
+    let spoiled = pick(state, 4);
+    if spoiled.value != 0 {
+        return spoiled.state;
+    }
+    let place = pick(spoiled.state, TEXT_SHOWN);
     let byte = pick(place.state, 256);
     store_byte(text, place.value, byte.value);
     byte.state
-}
-
-// Puts a 0 or a 9 where a text has a digit, so that a number may leave its range and the text keep its form.
-fn spoil_digit(state: u64, text: &mut [u8]) -> u64 {
-    let place = edge(state, &DIGITS);
-    let digit = pick(place.state, 2);
-    store_byte(text, place.value, 48 + 9 * digit.value);
-    digit.state
-}
-
-// Spoils the text, three times in four.
-fn spoil(state: u64, text: &mut [u8]) -> u64 {
-    let way = pick(state, 4);
-    if way.value == 0 {
-        return spoil_anywhere(way.state, text);
-    }
-    if way.value < 3 {
-        return spoil_digit(way.state, text);
-    }
-    way.state
 }
 
 // The line of a reading.

@@ -141,13 +141,13 @@ fn slots_at_their_limits() {
 fn largest_cycle() {
     let windows = [65535u16; MAX_CYCLE_LINKS];
     let sizes = [1024u16; MAX_MESSAGES];
-    let sets = [4294967295u32; MAX_MESSAGES];
+    let paths = [4294967295u32; MAX_MESSAGES];
     let ready = [1u8; MAX_MESSAGES];
     let mut taken = [0u8; MAX_MESSAGES];
     let mut loads = [0u16; MAX_CYCLE_LINKS];
     print_answer(
         b"cycle of 64 messages over 32 links",
-        cycles::cycle(&windows, &sizes, &sets, &ready, &mut taken, &mut loads),
+        cycles::cycle(&windows, &sizes, &paths, &ready, &mut taken, &mut loads),
     );
     print_byte(b"message 62 is taken", taken[62]);
     print_byte(b"message 63 is taken", taken[63]);
@@ -157,20 +157,27 @@ fn largest_cycle() {
 fn cycles_past_the_limits() {
     let windows = [65535u16; 33];
     let sizes = [1u16; 65];
-    let sets = [1u32; 65];
+    let paths = [1u32; 65];
     let ready = [1u8; 65];
     let mut taken = [0u8; 65];
     let mut loads = [0u16; 33];
     print_answer(
         b"cycle of 65 messages",
-        cycles::cycle(&windows[..1], &sizes, &sets, &ready, &mut taken, &mut loads),
+        cycles::cycle(
+            &windows[..1],
+            &sizes,
+            &paths,
+            &ready,
+            &mut taken,
+            &mut loads,
+        ),
     );
     print_answer(
         b"cycle over 33 links",
         cycles::cycle(
             &windows,
             &sizes[..1],
-            &sets[..1],
+            &paths[..1],
             &ready[..1],
             &mut taken,
             &mut loads,
@@ -182,14 +189,14 @@ fn cycles_past_the_limits() {
 fn longest_run(case: &[u8], cycles: usize) {
     let windows = [65535u16; MAX_CYCLE_LINKS];
     let sizes = [65535u16; MAX_MESSAGES];
-    let sets = [4294967295u32; MAX_MESSAGES];
+    let paths = [4294967295u32; MAX_MESSAGES];
     let mut releases = [0u16; MAX_MESSAGES];
     releases[62] = 1023;
     releases[63] = 1024;
     let mut responses = [0u16; MAX_MESSAGES];
     print_answer(
         case,
-        cycles::run(&windows, &sizes, &sets, &releases, cycles, &mut responses),
+        cycles::run(&windows, &sizes, &paths, &releases, cycles, &mut responses),
     );
     print_number(b"response of message 0", responses[0]);
     print_number(b"response of message 61", responses[61]);

@@ -1,4 +1,9 @@
+pub mod Cycle
 pub mod Judging
+pub mod Run
 pub mod Steps
+pub mod Trd
 pub mod Promises
 pub mod Refusals
+pub mod HouseRule
+pub mod Responses

@@ -1,8 +1,9 @@
 -- What the functions inside the crate promise each other: one message's step, and one cycle's step of a run. X is loads or responses so far.
 use Rattle.std.specs.Prelude.{ℕ, ◌+◌, ◌≤◌, ◌<◌, ◌≡◌, Bool, not, cond, ◌&&◌, List, length, get_or, eqb, leb}
+use Rattle.answers.specs.Limits.{max_cycle_links, max_messages}
 use Rattle.answers.specs.Buffers.{written}
-use Rattle.shore.specs.Cycle.{Network, no_room, share, taken}
-use Rattle.shore.specs.Run.{STILL_WAITING, release_of, cycles_through}
+use Rattle.cycles.specs.Cycle.{Network, no_room, share, taken}
+use Rattle.cycles.specs.Run.{STILL_WAITING, release_of, cycles_through}
 
 abbrev pub load_in : List ℕ → ℕ → ℕ
 load_in X l = get_or X l 0
@@ -40,3 +41,11 @@ response_after wasTaken release t before = cond wasTaken (cycles_through release
 -- all responses after cycle t
 abbrev pub after_cycle : Network → List ℕ → ℕ → List ℕ → List ℕ
 after_cycle w R t X = written (length R) (λ i. response_after (taken w (ready_now R X t) i) (release_of R i) t (get_or X i 0)) X
+
+-- what a run asks of its lists' lengths
+pub record RunSized (W S P R X : List ℕ) : Type 0 where
+  pub few_links : length W ≤ max_cycle_links
+  pub few_messages : length S ≤ max_messages
+  pub as_many_sets : length P ≡ length S
+  pub as_many_releases : length R ≡ length S
+  pub room : length S ≤ length X

@@ -1,15 +1,16 @@
-// Elementary cycles of the shore network: which messages a cycle takes, and what responses they have over a run of cycles.
-// Windows, sizes, sets of links, releases and responses are lent as lists; a refusal changes nothing.
+// Elementary cycles of the shore network: which messages a cycle takes, what responses they have over a run of cycles, and the least
+// TRD. Windows, sizes, sets of links, releases and responses are lent as lists; a refusal changes nothing.
 ghost use Rattle.std.specs.Prelude.{◌≡◌, not, ◌||◌, eqb, ltb};
 ghost use Rattle.answers.specs.Limits.{max_cycles, outside};
-ghost use Rattle.shore.specs.Cycle.{network};
+ghost use Rattle.cycles.specs.Cycle.{network};
 ghost use Rattle.cycles.specs.Judging.{cycle_answer, run_answer};
+ghost use Rattle.cycles.specs.Trd.{right_side, TrdAsked, trd_out_of_range, trd_answer};
 ghost use Rattle.cycles.specs.Promises.{Cycled, RunOver};
 
 use crate::judging::network_answer;
 use crate::responses::run_cycles;
 use crate::taking::take_ready;
-use answers::{Answer, BUFFER_TOO_SMALL, CYCLES_MISSIZED, DONE, MAX_CYCLES};
+use answers::{Answer, outside};
 
 mod judging;
 mod links;
@@ -32,64 +33,44 @@ fn buffer_short(taken_room: usize, messages: usize, load_room: usize, links: usi
     load_room < links
 }
 
-// What a cycle answers: 34 of its own list first, then what its network is refused with, then 21.
+// What a cycle answers.
 fn cycle_answer(
     windows: &[u16],
     sizes: &[u16],
-    sets: &[u32],
+    paths: &[u32],
     ready: &[u8],
     taken_room: usize,
     load_room: usize,
 ) -> Answer
-    ensures { result ≡ cycle_answer (network windows.now sizes.now sets.now)
-        ready.now taken_room load_room }
+    ensures { result ≡ cycle_answer (network windows.now sizes.now paths.now) ready.now taken_room load_room }
 {
-    if ready.len() != sizes.len() {
-        return answers::refusal(CYCLES_MISSIZED);
-    }
-    let judged = network_answer(windows, sizes, sets);
-    if judged.number != DONE {
-        return judged;
-    }
-    if buffer_short(taken_room, sizes.len(), load_room, windows.len()) {
-        return answers::refusal(BUFFER_TOO_SMALL);
-    }
-    answers::done()
+    let short = buffer_short(taken_room, sizes.len(), load_room, windows.len());
+    network_answer(windows, sizes, paths, ready.len() != sizes.len(), short)
 }
 
 // Refusal 34 of a run, beside that of its network.
 fn run_missized(cycles: usize, releases: usize, messages: usize) -> bool
     ensures { result ≡ (outside 1 max_cycles cycles || not (eqb releases messages)) }
 {
-    if answers::outside(1, MAX_CYCLES, cycles) {
+    if outside(1, answers::MAX_CYCLES, cycles) {
         return true;
     }
     releases != messages
 }
 
-// What a run answers: 34 of its own numbers first, then what its network is refused with, then 21.
+// What a run answers.
 fn run_answer(
     windows: &[u16],
     sizes: &[u16],
-    sets: &[u32],
+    paths: &[u32],
     releases: &[u16],
     cycles: usize,
     response_room: usize,
 ) -> Answer
-    ensures { result ≡ run_answer (network windows.now sizes.now sets.now)
-        releases.now cycles response_room }
+    ensures { result ≡ run_answer (network windows.now sizes.now paths.now) releases.now cycles response_room }
 {
-    if run_missized(cycles, releases.len(), sizes.len()) {
-        return answers::refusal(CYCLES_MISSIZED);
-    }
-    let judged = network_answer(windows, sizes, sets);
-    if judged.number != DONE {
-        return judged;
-    }
-    if response_room < sizes.len() {
-        return answers::refusal(BUFFER_TOO_SMALL);
-    }
-    answers::done()
+    let missized = run_missized(cycles, releases.len(), sizes.len());
+    network_answer(windows, sizes, paths, missized, response_room < sizes.len())
 }
 
 // One cycle: takes the ready messages in order, each if on all its links the sizes taken so far leave room for its own. For each
@@ -97,19 +78,18 @@ fn run_answer(
 pub fn cycle(
     windows: &[u16],
     sizes: &[u16],
-    sets: &[u32],
+    paths: &[u32],
     ready: &[u8],
     taken: &mut [u8],
     loads: &mut [u16],
 ) -> Answer
-    ensures { Cycled (network windows.now sizes.now sets.now)
-        ready.now taken.old loads.old result taken.new loads.new }
+    ensures { Cycled (network windows.now sizes.now paths.now) ready.now taken.old loads.old result taken.new loads.new }
 {
-    let judged = cycle_answer(windows, sizes, sets, ready, taken.len(), loads.len());
-    if judged.number != DONE {
+    let judged = cycle_answer(windows, sizes, paths, ready, taken.len(), loads.len());
+    if judged.number != answers::DONE {
         return judged;
     }
-    take_ready(windows, sizes, sets, ready, taken, loads);
+    take_ready(windows, sizes, paths, ready, taken, loads);
     judged
 }
 
@@ -118,18 +98,54 @@ pub fn cycle(
 pub fn run(
     windows: &[u16],
     sizes: &[u16],
-    sets: &[u32],
+    paths: &[u32],
     releases: &[u16],
     cycles: usize,
     responses: &mut [u16],
 ) -> Answer
-    ensures { RunOver (network windows.now sizes.now sets.now)
-        releases.now cycles responses.old result responses.new }
+    ensures { RunOver (network windows.now sizes.now paths.now) releases.now cycles responses.old result responses.new }
 {
-    let judged = run_answer(windows, sizes, sets, releases, cycles, responses.len());
-    if judged.number != DONE {
+    let judged = run_answer(windows, sizes, paths, releases, cycles, responses.len());
+    if judged.number != answers::DONE {
         return judged;
     }
-    run_cycles(windows, sizes, sets, releases, cycles, responses);
+    run_cycles(windows, sizes, paths, releases, cycles, responses);
     judged
+}
+
+// Refusal 32.
+fn trd_out_of_range(depth: usize, nodes: usize, sig: usize, tm: usize, sld: usize) -> bool
+    ensures { result ≡ trd_out_of_range depth nodes sig tm sld }
+{
+    if outside(1, answers::MAX_DEPTH, depth) {
+        return true;
+    }
+    if outside(1, answers::MAX_NODES, nodes) {
+        return true;
+    }
+    if outside(0, answers::MAX_TIME, sig) {
+        return true;
+    }
+    if outside(0, answers::MAX_TIME, tm) {
+        return true;
+    }
+    outside(0, answers::MAX_TIME, sld)
+}
+
+// Equation 1's right side.
+fn right_side(depth: usize, nodes: usize, sig: usize, tm: usize, sld: usize) -> usize
+    requires { TrdAsked depth nodes sig tm sld }
+    ensures { result ≡ right_side depth nodes sig tm sld }
+{
+    (depth - 1) * (tm + sld) + nodes * sig + depth * (sig + sld)
+}
+
+// The least whole TRD that equation 1 allows: one more than its right side.
+pub fn least_trd(depth: usize, nodes: usize, sig: usize, tm: usize, sld: usize) -> Answer
+    ensures { result ≡ trd_answer depth nodes sig tm sld }
+{
+    if trd_out_of_range(depth, nodes, sig, tm, sld) {
+        return answers::refusal(answers::TRD_ASKED_OUT_OF_RANGE);
+    }
+    answers::naming(answers::DONE, right_side(depth, nodes, sig, tm, sld) + 1)
 }

@@ -1,7 +1,7 @@
 // Sets of links, and what messages put on them.
 ghost use Rattle.std.specs.Prelude.{◌≡◌, ◌&&◌, ◌+◌, ◌≤◌, ◌<◌, ltb, length};
 ghost use Rattle.answers.specs.Limits.{max_cycle_links};
-ghost use Rattle.shore.specs.Cycle.{in_set, no_room, share};
+ghost use Rattle.cycles.specs.Cycle.{in_set, no_room, share};
 ghost use Rattle.cycles.specs.Steps.{load_in, AllFit, added};
 
 // Whether a link is in a set: its bit is 1.

@@ -3,14 +3,11 @@ ghost use Rattle.std.specs.Prelude.{◌≡◌, not, ◌≤◌, ◌<◌, length, 
 ghost use Rattle.answers.specs.Limits.{max_cycles};
 ghost use Rattle.answers.specs.Sums.{one};
 ghost use Rattle.answers.specs.Buffers.{written};
-ghost use Rattle.shore.specs.Cycle.{network};
-ghost use Rattle.shore.specs.Run.{release_of, mark_for, response_of};
-ghost use Rattle.cycles.specs.Promises.{marked};
-ghost use Rattle.cycles.specs.Refusals.{Sized, RunSized};
-ghost use Rattle.cycles.specs.Steps.{still_ready, ready_now, InTime, AllInTime, response_after, after_cycle};
+ghost use Rattle.cycles.specs.Cycle.{network, marked};
+ghost use Rattle.cycles.specs.Run.{release_of, mark_for, response_of};
+ghost use Rattle.cycles.specs.Steps.{still_ready, ready_now, InTime, AllInTime, response_after, after_cycle, RunSized};
 
 use crate::taking;
-use answers::{MAX_CYCLE_LINKS, MAX_MESSAGES};
 
 // The mark of a message that no cycle took.
 fn mark(release: u16, cycles: usize) -> u16
@@ -25,9 +22,7 @@ fn mark(release: u16, cycles: usize) -> u16
 // Gives each message the mark that it has while no cycle took it.
 fn mark_releases(releases: &[u16], cycles: usize, responses: &mut [u16])
     requires { length releases.now ≤ length responses.old }
-    ensures { responses.new ≡ written (length releases.now)
-        (λ i. mark_for (release_of releases.now i) cycles)
-        responses.old }
+    ensures { responses.new ≡ written (length releases.now) (λ i. mark_for (release_of releases.now i) cycles) responses.old }
 {
     let mut message = 0;
     while message < releases.len() {
@@ -53,9 +48,7 @@ fn ready_byte(release: u16, response: u16, cycle: usize) -> u8
 fn make_ready(releases: &[u16], responses: &[u16], cycle: usize, ready: &mut [u8])
     requires known { length releases.now ≤ length responses.now }
     requires room { length releases.now ≤ length ready.old }
-    ensures { ready.new ≡ written (length releases.now)
-        (λ i. one (ready_now releases.now responses.now cycle i))
-        ready.old }
+    ensures { ready.new ≡ written (length releases.now) (λ i. one (ready_now releases.now responses.now cycle i)) ready.old }
 {
     let mut message = 0;
     while message < releases.len() {
@@ -82,9 +75,7 @@ fn note_taken(releases: &[u16], taken: &[u8], cycle: usize, responses: &mut [u16
     requires room { length releases.now ≤ length responses.old }
     requires released { AllInTime releases.now taken.now cycle }
     requires few { cycle < max_cycles }
-    ensures { responses.new ≡ written (length releases.now)
-        (λ i. response_after (marked taken.now i) (release_of releases.now i) cycle (get_or responses.old i 0))
-        responses.old }
+    ensures { responses.new ≡ written (length releases.now) (λ i. response_after (marked taken.now i) (release_of releases.now i) cycle (get_or responses.old i 0)) responses.old }
 {
     let mut message = 0;
     while message < releases.len() {
@@ -102,23 +93,20 @@ fn note_taken(releases: &[u16], taken: &[u8], cycle: usize, responses: &mut [u16
 fn run_cycle(
     windows: &[u16],
     sizes: &[u16],
-    sets: &[u32],
+    paths: &[u32],
     releases: &[u16],
     cycle: usize,
     responses: &mut [u16],
 )
-    requires sized { Sized (network windows.now sizes.now sets.now) }
-    requires released { length releases.now ≡ length sizes.now }
-    requires room { length sizes.now ≤ length responses.old }
+    requires sized { RunSized windows.now sizes.now paths.now releases.now responses.old }
     requires few { cycle < max_cycles }
-    ensures { responses.new ≡ after_cycle (network windows.now sizes.now sets.now)
-        releases.now cycle responses.old }
+    ensures { responses.new ≡ after_cycle (network windows.now sizes.now paths.now) releases.now cycle responses.old }
 {
-    let mut ready = [0u8; MAX_MESSAGES];
-    let mut taken = [0u8; MAX_MESSAGES];
-    let mut load = [0u16; MAX_CYCLE_LINKS];
+    let mut ready = [0u8; answers::MAX_MESSAGES];
+    let mut taken = [0u8; answers::MAX_MESSAGES];
+    let mut load = [0u16; answers::MAX_CYCLE_LINKS];
     make_ready(releases, responses, cycle, &mut ready);
-    taking::take_ready(windows, sizes, sets, &ready, &mut taken, &mut load);
+    taking::take_ready(windows, sizes, paths, &ready, &mut taken, &mut load);
     note_taken(releases, &taken, cycle, responses);
 }
 
@@ -126,21 +114,19 @@ fn run_cycle(
 pub fn run_cycles(
     windows: &[u16],
     sizes: &[u16],
-    sets: &[u32],
+    paths: &[u32],
     releases: &[u16],
     cycles: usize,
     responses: &mut [u16],
 )
-    requires sized { RunSized (network windows.now sizes.now sets.now) releases.now cycles }
-    requires room { length sizes.now ≤ length responses.old }
-    ensures { responses.new ≡ written (length sizes.now)
-        (response_of (network windows.now sizes.now sets.now) releases.now cycles)
-        responses.old }
+    requires sized { RunSized windows.now sizes.now paths.now releases.now responses.old }
+    requires few { cycles ≤ max_cycles }
+    ensures { responses.new ≡ written (length sizes.now) (response_of (network windows.now sizes.now paths.now) releases.now cycles) responses.old }
 {
     mark_releases(releases, cycles, responses);
     let mut cycle = 0;
     while cycle < cycles {
-        run_cycle(windows, sizes, sets, releases, cycle, responses);
+        run_cycle(windows, sizes, paths, releases, cycle, responses);
         cycle += 1;
     }
 }

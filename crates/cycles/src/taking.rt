@@ -3,8 +3,7 @@ ghost use Rattle.std.specs.Prelude.{◌≡◌, cond, ◌≤◌, length};
 ghost use Rattle.answers.specs.Limits.{max_cycle_links};
 ghost use Rattle.answers.specs.Sums.{one};
 ghost use Rattle.answers.specs.Buffers.{written};
-ghost use Rattle.shore.specs.Cycle.{network, load_of};
-ghost use Rattle.cycles.specs.Promises.{marked, taken_byte};
+ghost use Rattle.cycles.specs.Cycle.{network, taken, load_of, marked};
 ghost use Rattle.cycles.specs.Steps.{takes_now, added};
 
 use crate::links;
@@ -26,9 +25,7 @@ fn take(windows: &[u16], size: u16, set: u32, ready: u8, load: &mut [u16]) -> u8
     requires few { length windows.now ≤ max_cycle_links }
     requires room { length windows.now ≤ length load.old }
     ensures byte { result ≡ one (takes_now windows.now load.old size set ready) }
-    ensures loads { load.new ≡ cond (takes_now windows.now load.old size set ready)
-        (added (length windows.now) size set load.old)
-        load.old }
+    ensures loads { load.new ≡ cond (takes_now windows.now load.old size set ready) (added (length windows.now) size set load.old) load.old }
 {
     if ready == 0 {
         return 0;
@@ -44,27 +41,29 @@ fn take(windows: &[u16], size: u16, set: u32, ready: u8, load: &mut [u16]) -> u8
 pub fn take_ready(
     windows: &[u16],
     sizes: &[u16],
-    sets: &[u32],
+    paths: &[u32],
     ready: &[u8],
     taken_bytes: &mut [u8],
     load: &mut [u16],
 )
     requires few { length windows.now ≤ max_cycle_links }
-    requires paired { length sets.now ≡ length sizes.now }
+    requires sets { length paths.now ≡ length sizes.now }
     requires judged { length sizes.now ≤ length ready.now }
     requires bytes { length sizes.now ≤ length taken_bytes.old }
     requires room { length windows.now ≤ length load.old }
-    ensures marked { taken_bytes.new ≡ written (length sizes.now)
-        (taken_byte (network windows.now sizes.now sets.now) ready.now)
-        taken_bytes.old }
-    ensures loads { load.new ≡ written (length windows.now)
-        (load_of (network windows.now sizes.now sets.now) (marked ready.now))
-        load.old }
+    ensures marked { taken_bytes.new ≡ written (length sizes.now) (λ i. one (taken (network windows.now sizes.now paths.now) (marked ready.now) i)) taken_bytes.old }
+    ensures loads { load.new ≡ written (length windows.now) (load_of (network windows.now sizes.now paths.now) (marked ready.now)) load.old }
 {
     clear(load, windows.len());
     let mut message = 0;
     while message < sizes.len() {
-        taken_bytes[message] = take(windows, sizes[message], sets[message], ready[message], load);
+        taken_bytes[message] = take(
+            windows,
+            sizes[message],
+            paths[message],
+            ready[message],
+            load,
+        );
         message += 1;
     }
 }

@@ -7,24 +7,20 @@ use mathlib.Core.List.{List, [], ◌∷◌, ◌++◌}
 use native.Mathlib.Omega.{arith}
 use borrow.Author.Tests.{ltb-true, ltb-false, lt-ltb, le-ltb}
 use lib.IntN.{pos}
-use lib.ListN.{length as size}
 use lib.Dec.{ltb}
 use Rattle.answers.specs.declared.Answer.{Answer}
 use Rattle.answers.specs.Numbers.{DONE, INPUT_OVERLOADED, OUTPUT_OVERLOADED, TABLE_TOO_SHORT}
 use Rattle.answers.specs.Limits.{Within}
 use Rattle.answers.specs.Lowest.{IsLowest}
 use Rattle.answers.specs.Answers.{Rule, answer, refusal, done_with, ◌when◌, naming_lowest}
-use Rattle.answers.proofs.First.{NoneHolds, none_first, none_later, none_both, done_exactly, first_none, given_exactly, named_exactly, not_named}
-use Rattle.answers.proofs.First.{none_named}
+use Rattle.answers.proofs.First.{NoneHolds, none_first, none_later, none_both, done_exactly, first_none, given_exactly, named_exactly, not_named, none_named}
 use Rattle.flows.specs.Flows.{input_overloaded, output_overloaded, input_load, output_load, InRange, Fitting, list_rules}
 use Rattle.flows.proofs.Shape.{in_range, not_due}
 use Rattle.tables.proofs.Counting.{accepted_fits}
 use Rattle.builder.specs.AddCell.{PortsInRange}
 use Rattle.builder.specs.Build.{load_rules, build_rules, build_answer}
 use Rattle.builder.proofs.Existence.{table_exists_exactly_if_fitting}
-use Rattle.demands.specs.Builder.{TableExistsExactlyIfFitting, Exists, BuildsIfOneExists, DoneLeavesAccepted, RefusesLoadIfNoneExists}
-use Rattle.demands.specs.Builder.{InputOver, OutputOver, NamesInput, NamesOutput}
-use Rattle.demands.proofs.Carrying.{exactly}
+use Rattle.demands.specs.Builder.{TableExistsExactlyIfFitting, Exists, BuildsIfOneExists, RefusesLoadIfNoneExists, InputOver, OutputOver, NamesInput, NamesOutput, OneBuild}
 
 pub exists_exactly_if_fitting : TableExistsExactlyIfFitting
 exists_exactly_if_fitting = table_exists_exactly_if_fitting
@@ -60,8 +56,8 @@ module _ (M N : ℕ) (L : List ℕ) where
   no_output : NoneHolds (outputs ∷ []) → (j : ℕ) → Within 1 N j → OutputOver M L j → ⊥
   unfolding outputs
   no_output h j w =
-      not_named OUTPUT_OVERLOADED 1 N (output_overloaded M L) (OutputOver M L) (λ k a u. ltb-true M (output_load L k)) (λ k a u. lt-ltb M (output_load L k))
-      h.0 j w.at_least (omega (arith, w.at_most))
+      not_named OUTPUT_OVERLOADED 1 N (output_overloaded M L) (OutputOver M L) (λ k a u. ltb-true M (output_load L k)) (λ k a u. lt-ltb M (output_load L k)) h.0 j
+      w.at_least (omega (arith, w.at_most))
 
   output_none : ((j : ℕ) → Within 1 N j → OutputOver M L j → ⊥) → NoneHolds (outputs ∷ [])
   unfolding outputs
@@ -81,9 +77,9 @@ module _ (M N : ℕ) (L : List ℕ) where
   not_over : {load : ℕ} → load ≤ M → M < load → ⊥
   not_over l u = omega arith
 
-built_exactly : (M N : ℕ) (L : List ℕ) (length : ℕ) → (build_answer M N L length ≡ done_with (pos 0)) ↔ (InRange M N L × Exists M N L × (N * M ≤ length))
+pub builds_if_one_exists : BuildsIfOneExists
 unfolding build_answer inputs outputs short
-built_exactly M N L length = (out, back)
+builds_if_one_exists M N L length = (out, back)
   where
     out : build_answer M N L length ≡ done_with (pos 0) → InRange M N L × Exists M N L × (N * M ≤ length)
     out e =
@@ -101,34 +97,19 @@ built_exactly M N L length = (out, back)
           ((output_none M N L (λ j w. not_over M N L (fit.outputs_fit j w))).0, (le-ltb _ _ h.2, tt)),
         ))
 
-pub builds_if_one_exists : BuildsIfOneExists
-builds_if_one_exists κ x a l c = exactly c.answered (built_exactly _ _ _ _)
-
-pub done_leaves_accepted : DoneLeavesAccepted
-done_leaves_accepted κ x a l c e = c.accepted (ap (λ (b : Answer). b.number) e)
-
-input_named : (M N : ℕ) (L : List ℕ) (length i : ℕ)
-    → (build_answer M N L length ≡ answer INPUT_OVERLOADED (pos i)) ↔ (InRange M N L × IsLowest 1 N (InputOver M L) i)
+pub names_input : NamesInput
 unfolding build_answer inputs outputs short
-input_named M N L length i = (λ e. let h = law.0 e in (in_range M N L h.0, h.1), λ h. law.1 (not_due M N L h.0, h.1))
+names_input M N L length i = (λ e. let h = law.0 e in (in_range M N L h.0, h.1), λ h. law.1 (not_due M N L h.0, h.1))
   where
     law : (build_answer M N L length ≡ answer INPUT_OVERLOADED (pos i)) ↔ (NoneHolds (list_rules M N L) × IsLowest 1 N (InputOver M L) i)
     law =
         named_exactly INPUT_OVERLOADED 1 N (input_overloaded M L) (InputOver M L) (λ k a u. ltb-true M (input_load L k)) (λ k a u. lt-ltb M (input_load L k))
         (list_rules M N L) (outputs M N L ∷ short M N L length ∷ []) (done_with (pos 0)) i tt tt tt
 
-pub names_input : NamesInput
-names_input κ x a l c i = exactly c.answered (input_named _ _ _ _ i)
-
-output_named : (M N : ℕ) (L : List ℕ) (length j : ℕ)
-    → (build_answer M N L length ≡ answer OUTPUT_OVERLOADED (pos j))
-    ↔ (InRange M N L × ((i : ℕ) → Within 1 N i → InputOver M L i → ⊥) × IsLowest 1 N (OutputOver M L) j)
+pub names_output : NamesOutput
 unfolding build_answer inputs outputs short
-output_named M N L length j = (
-  λ e.
-      let h = law.0 e in
-      let first = none_first (list_rules M N L) (inputs M N L ∷ []) h.0 in
-      (in_range M N L first, no_input M N L (none_later (list_rules M N L) (inputs M N L ∷ []) h.0), h.1),
+names_output M N L length j = (
+  λ e. let h = law.0 e in (in_range M N L (none_first (list_rules M N L) (inputs M N L ∷ []) h.0), no_input M N L (none_later (list_rules M N L) (inputs M N L ∷ []) h.0), h.1),
   λ h. law.1 (none_both (list_rules M N L) (inputs M N L ∷ []) (not_due M N L h.0) (input_none M N L h.1), h.2),
 )
   where
@@ -137,35 +118,26 @@ output_named M N L length j = (
         named_exactly OUTPUT_OVERLOADED 1 N (output_overloaded M L) (OutputOver M L) (λ k a u. ltb-true M (output_load L k)) (λ k a u. lt-ltb M (output_load L k))
         (list_rules M N L ++ inputs M N L ∷ []) (short M N L length ∷ []) (done_with (pos 0)) j tt tt tt
 
-pub names_output : NamesOutput
-names_output κ x a l c j = exactly c.answered (output_named _ _ _ _ j)
-
-over_for_none : (M N : ℕ) (L : List ℕ) (length : ℕ)
-    → ((build_answer M N L length).number ≡ INPUT_OVERLOADED) ⊎ ((build_answer M N L length).number ≡ OUTPUT_OVERLOADED) → Exists M N L → ⊥
+pub refuses_load_if_none_exists : RefusesLoadIfNoneExists
 unfolding build_answer inputs outputs short
-over_for_none M N L length over table = go over
+refuses_load_if_none_exists M N L length over table = go over
   where
     fit : Fitting M N L
     fit = accepted_fits M N L table.0 table.2
 
     go : ((build_answer M N L length).number ≡ INPUT_OVERLOADED) ⊎ ((build_answer M N L length).number ≡ OUTPUT_OVERLOADED) → ⊥
     go (inl e) =
-        let later = outputs M N L ∷ short M N L length ∷ [] in
-        let h = (given_exactly INPUT_OVERLOADED (list_rules M N L) (inputs M N L) later (done_with (pos 0)) refl tt tt tt).0 e in
+        let h = (given_exactly INPUT_OVERLOADED (list_rules M N L) (inputs M N L) (outputs M N L ∷ short M N L length ∷ []) (done_with (pos 0)) refl tt tt tt).0 e in
         true≢false (sym h.1 ∙ (input_none M N L (λ i w. not_over M N L (fit.inputs_fit i w))).0)
     go (inr e) =
-        let earlier = list_rules M N L ++ inputs M N L ∷ [] in
-        let h = (given_exactly OUTPUT_OVERLOADED earlier (outputs M N L) (short M N L length ∷ []) (done_with (pos 0)) refl tt tt tt).0 e in
+        let h = (given_exactly OUTPUT_OVERLOADED (list_rules M N L ++ inputs M N L ∷ []) (outputs M N L) (short M N L length ∷ []) (done_with (pos 0)) refl tt tt tt).0 e in
         true≢false (sym h.1 ∙ (output_none M N L (λ j w. not_over M N L (fit.outputs_fit j w))).0)
 
-pub refuses_load_if_none_exists : RefusesLoadIfNoneExists
-refuses_load_if_none_exists κ x a l c over table = over_for_none _ _ _ _ (carried over) table
-  where
-    same : (n : ℕ) → a.number ≡ n → (build_answer x.0 x.1.0 x.1.1.0.now (size x.1.1.1.0.now)).number ≡ n
-    same n e = sym (ap (λ (b : Answer). b.number) c.answered) ∙ e
-
-    carried : (a.number ≡ INPUT_OVERLOADED) ⊎ (a.number ≡ OUTPUT_OVERLOADED)
-        → ((build_answer x.0 x.1.0 x.1.1.0.now (size x.1.1.1.0.now)).number ≡ INPUT_OVERLOADED)
-        ⊎ ((build_answer x.0 x.1.0 x.1.1.0.now (size x.1.1.1.0.now)).number ≡ OUTPUT_OVERLOADED)
-    carried (inl e) = inl (same INPUT_OVERLOADED e)
-    carried (inr e) = inr (same OUTPUT_OVERLOADED e)
+pub one_build : OneBuild
+one_build M N L before a b T U p q = (
+  p.answered ∙ sym q.answered,
+  (
+    (λ h. p.refused_leaves h ∙ sym (q.refused_leaves (λ x. h (ap (λ (y : Answer). y.number) (p.answered ∙ sym q.answered) ∙ x)))),
+    p.beyond ∙ sym q.beyond,
+  ),
+)

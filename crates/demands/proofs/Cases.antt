@@ -10,19 +10,20 @@ use Rattle.answers.specs.declared.Answer.{Answer}
 use Rattle.answers.specs.Lowest.{lowest}
 use Rattle.answers.specs.Answers.{answer}
 use Rattle.answers.specs.Sums.{sum}
+use Rattle.answers.specs.Sums as Sums
 use Rattle.answers.specs.Buffers.{written}
 use Rattle.flows.specs.Flows.{input_load, output_load}
 use Rattle.margins.specs.Margins.{least_times, margin_answer, room_answer, fit_answer, cells_answer}
-use Rattle.trd.specs.Trd.{trd_answer}
-use Rattle.shore.specs.Cycle.{links, messages, load_of, load_after}
-use Rattle.shore.specs.Run.{taken_before, response_of}
-use Rattle.cycles.specs.Judging.{cycle_answer, run_answer}
-use Rattle.cycles.specs.Promises.{after_call, marked, taken_byte}
+use Rattle.cycles.specs.Cycle.{links, messages, taken, load_of, load_after, marked}
+use Rattle.cycles.specs.Judging.{cycle_answer, run_answer, network_answer}
+use Rattle.cycles.specs.Run.{taken_before, response_of}
+use Rattle.cycles.specs.Trd.{trd_answer}
+use Rattle.cycles.specs.Promises.{after_call}
 use Rattle.tables.specs.Accepted.{times}
 use Rattle.tables.specs.Check.{check_answer}
 use Rattle.builder.specs.Build.{build_answer}
 use Rattle.forwarding.specs.Forwarding.{slot_answer}
-use Rattle.forwarding.specs.Calls.{running_at}
+use Rattle.forwarding.specs.Histories.{running_at}
 use Rattle.demands.specs.Cases.{Case, check, build, fit, margin, room, cells, slot, cycle, run, trd, Claim, AllHold, cases, CasesHold}
 
 abbrev same_z : ℤ → ℤ → Bool
@@ -78,7 +79,7 @@ holds (cells bits a) = same (cells_answer bits) a
 holds (slot M N p X W a) = same (slot_answer (running_at M N p) X W N) a
 holds (cycle w ready B X a B' X') =
     same a (cycle_answer w ready (length B) (length X))
-    && (same_list B' (after_call a (messages w) (taken_byte w ready) B) && same_list X' (after_call a (links w) (load_of w (marked ready)) X))
+    && (same_list B' (after_call a (messages w) (λ i. Sums.one (taken w (marked ready) i)) B) && same_list X' (after_call a (links w) (load_of w (marked ready)) X))
 holds (run w R cycles X a X') = same a (run_answer w R cycles (length X)) && same_list X' (after_call a (messages w) (response_of w R cycles) X)
 holds (trd depth nodes sig tm sld a) = same (trd_answer depth nodes sig tm sld) a
 
@@ -91,12 +92,11 @@ one (room M d H a) t = same_answer (room_answer M d H) a t
 one (cells bits a) t = same_answer (cells_answer bits) a t
 one (slot M N p X W a) t = same_answer (slot_answer (running_at M N p) X W N) a t
 one (cycle w ready B X a B' X') t =
-    let bytes = after_call a (messages w) (taken_byte w ready) B in
+    let bytes = after_call a (messages w) (λ i. Sums.one (taken w (marked ready) i)) B in
     let loads = after_call a (links w) (load_of w (marked ready)) X in
-    let due = cycle_answer w ready (length B) (length X) in
-    let rest = second (same a due) (same_list B' bytes && same_list X' loads) t in
+    let rest = second (same a (cycle_answer w ready (length B) (length X))) (same_list B' bytes && same_list X' loads) t in
     record {
-      answered = same_answer a due (first (same a due) (same_list B' bytes && same_list X' loads) t);
+      answered = same_answer a (cycle_answer w ready (length B) (length X)) (first (same a (cycle_answer w ready (length B) (length X))) (same_list B' bytes && same_list X' loads) t);
       messages-taken = same_list_lem B' bytes (first (same_list B' bytes) (same_list X' loads) rest);
       loads = same_list_lem X' loads (second (same_list B' bytes) (same_list X' loads) rest);
     }
@@ -117,6 +117,5 @@ each [] t = tt
 each (c ∷ cs) t = (one c (first (holds c) (all cs) t), each cs (second (holds c) (all cs) t))
 
 pub cases_hold : CasesHold
-unfolding check_answer build_answer margin_answer room_answer fit_answer cells_answer slot_answer cycle_answer run_answer trd_answer
-    written load_after taken_before least_times lowest sum times input_load output_load
+unfolding check_answer build_answer margin_answer room_answer fit_answer cells_answer slot_answer network_answer trd_answer written load_after taken_before least_times lowest sum times input_load output_load
 cases_hold = each cases tt

@@ -19,13 +19,10 @@ use Rattle.answers.specs.Sums.{sum}
 use Rattle.answers.specs.Answers.{Rule, answer, refusal, done_with, ◌when◌, first}
 use Rattle.answers.proofs.Ranges.{inside, within_test, either_false}
 use Rattle.answers.proofs.First.{NoneHolds, lacks, first_none, lacked, named_exactly}
-use Rattle.margins.specs.Margins.{bound, margin_of, room_of, floor_div, fit_of, cells_for, carried_bits, link_out_of_range, margin_rules, room_rules, fit_rules, cells_rules}
-use Rattle.margins.specs.Margins.{margin_answer, room_answer, fit_answer, cells_answer}
+use Rattle.margins.specs.Margins.{bound, margin_of, room_of, floor_div, fit_of, cells_for, carried_bits, link_out_of_range, margin_rules, fit_rules, cells_rules, margin_answer, fit_answer, cells_answer}
 use Rattle.margins.proofs.Bounds.{bound_at_most, common_bound}
 use Rattle.margins.proofs.Times.{least_reaches, lower_fails, quotient_some}
-use Rattle.demands.specs.Delays.{BoundOfOnes, InTimeIffRoom, RoundedDown, RoomRoundsDown, lowest_margin, highest_margin, MarginInRange}
-use Rattle.demands.specs.Delays.{MarginEndsReached, Asked, NotOfALink, NamesLink, LeastTimes, FitIsLeast, CellsAreLeast}
-use Rattle.demands.proofs.Carrying.{exactly}
+use Rattle.demands.specs.Delays.{BoundOfOnes, InTimeIffRoom, RoundedDown, RoomRoundsDown, lowest_margin, highest_margin, MarginInRange, MarginEndsReached, Asked, NotOfALink, NamesLink, FitIsLeast, CellsAreLeast}
 
 -- a difference of two numbers, by which is larger
 Less : ℕ → ℕ → Type 0
@@ -55,10 +52,9 @@ links_fit M h d H some w =
     let all = common_bound M h d in
     (λ x. omega (arith, law.0 x, all, mul-add h M d), λ x. law.1 (omega (arith, all, mul-add h M d)))
 
--- of the definitions, for every frame, number of links, delay but 0 and deadline
-in_time : (M h d H : ℕ) → 1 ≤ d → (pos 0 ≤ℤ margin_of M (replicate h d) H) ↔ (pos h ≤ℤ room_of M d H)
+pub in_time_iff_room : InTimeIffRoom
 unfolding Less
-in_time M h d H some = go (less H (bound M (replicate h d))) (less H M)
+in_time_iff_room M h d H some = go (less H (bound M (replicate h d))) (less H M)
   where
     margin : ℤ → Type 0
     margin z = pos 0 ≤ℤ z
@@ -67,10 +63,8 @@ in_time M h d H some = go (less H (bound M (replicate h d))) (less H M)
     room z = pos h ≤ℤ floor_div z (M + d)
 
     go : Less H (bound M (replicate h d)) → Less H M → (pos 0 ≤ℤ margin_of M (replicate h d) H) ↔ (pos h ≤ℤ room_of M d H)
-    go (inl late) (inl short) = (
-      λ x. absurd (never 0 (bound M (replicate h d) - suc H) (subst margin late.1 x)),
-      λ x. absurd (never h ((M - suc H) / (M + d)) (subst room short.1 x)),
-    )
+    go (inl late) (inl short) =
+        (λ x. absurd (never 0 (bound M (replicate h d) - suc H) (subst margin late.1 x)), λ x. absurd (never h ((M - suc H) / (M + d)) (subst room short.1 x)))
     go (inl late) (inr wide) = (
       λ x. absurd (never 0 (bound M (replicate h d) - suc H) (subst margin late.1 x)),
       λ x. absurd (omega (arith, (links_fit M h d H some wide.0).0 (leb→le h ((H - M) / (M + d)) (subst room wide.1 x).le), late.0)),
@@ -110,46 +104,18 @@ floor_law (negsuc a) d some = record { not_above = above; nearest = near (a / d)
         let some_of : 0 < suc q * d = omega (arith, suc-mul q d) in
         subst (λ (z : ℤ). negsuc a <ℤ z) (sym (negated (suc q * d) some_of)) (record { lt = lt→ltb (suc q * d - 1) a (omega arith) })
 
+pub room_rounds_down : RoomRoundsDown
+room_rounds_down M d H some = floor_law (pos H -ℤ pos M) (M + d) (omega arith)
+
 -- an answer that is done was refused by none of the rules
 done_rules : (rs : List Rule) (d m : ℤ) → T (lacks DONE rs) → first rs (done_with d) ≡ done_with m → NoneHolds rs × (d ≡ m)
 done_rules rs d m t e =
     let none = (lacked DONE rs (done_with d) t (ap (λ (a : Answer). a.number) e)).0 in
     (none, ap (λ (a : Answer). a.detail) (sym (first_none rs (done_with d) none) ∙ e))
 
--- a room that is answered is the room of a delay that is not 0
-room_answered : (M d H : ℕ) (q : ℤ) → room_answer M d H ≡ done_with q → (1 ≤ d) × (room_of M d H ≡ q)
-unfolding room_answer
-room_answered M d H q e =
-    let known = done_rules (room_rules M d H) (room_of M d H) q tt e in
-    ((inside {low = 1} {high = max_delay} {x = d} known.0.1.1.0).at_least, known.1)
-
-pub room_rounds_down : RoomRoundsDown
-room_rounds_down κ x a l c q e = rounded _ _ _ (sym c ∙ e)
-  where
-    rounded : (M d H : ℕ) → room_answer M d H ≡ done_with q → RoundedDown (pos H -ℤ pos M) (M + d) q
-    rounded M d H e =
-        let known = room_answered M d H q e in
-        subst (λ (z : ℤ). RoundedDown (pos H -ℤ pos M) (M + d) z) known.1 (floor_law (pos H -ℤ pos M) (M + d) (omega (arith, known.0)))
-
-margin_answered : (M : ℕ) (D : List ℕ) (H : ℕ) (m : ℤ) → margin_answer M D H ≡ done_with m → margin_of M D H ≡ m
-unfolding margin_answer
-margin_answered M D H m e = (done_rules (margin_rules M D H) (margin_of M D H) m tt e).1
-
-pub in_time_iff_room : InTimeIffRoom
-in_time_iff_room κ x a l c κ' y b n k e f g m q p r =
-    let room = room_answered y.0 y.1.0 y.1.1.0 q (sym k ∙ r) in
-    let links = length x.1.0.now in
-    let margin : margin_of x.0 (replicate links y.1.0) x.1.1.0 ≡ m =
-    ap (λ (D : List ℕ). margin_of x.0 D x.1.1.0) (sym g) ∙ margin_answered _ _ _ m (sym c ∙ p) in
-    let within : room_of x.0 y.1.0 x.1.1.0 ≡ q = (λ i. room_of (e i) y.1.0 (f i)) ∙ room.1 in
-    let law = in_time x.0 links y.1.0 x.1.1.0 room.0 in (
-      λ h. subst (λ (z : ℤ). pos links ≤ℤ z) within (law.0 (subst (λ (z : ℤ). pos 0 ≤ℤ z) (sym margin) h)),
-      λ h. subst (λ (z : ℤ). pos 0 ≤ℤ z) margin (law.1 (subst (λ (z : ℤ). pos links ≤ℤ z) (sym within) h)),
-    )
-
-margin_inside : (M : ℕ) (D : List ℕ) (H : ℕ) (m : ℤ) → margin_answer M D H ≡ done_with m → (lowest_margin ≤ℤ m) × (m ≤ℤ highest_margin)
+pub margin_in_range : MarginInRange
 unfolding margin_answer Less
-margin_inside M D H m e = subst (λ (z : ℤ). (lowest_margin ≤ℤ z) × (z ≤ℤ highest_margin)) known.1 (go (less H (bound M D)))
+margin_in_range M D H m e = subst (λ (z : ℤ). (lowest_margin ≤ℤ z) × (z ≤ℤ highest_margin)) known.1 (go (less H (bound M D)))
   where
     known : NoneHolds (margin_rules M D H) × (margin_of M D H ≡ m)
     known = done_rules (margin_rules M D H) (margin_of M D H) m tt e
@@ -174,9 +140,6 @@ margin_inside M D H m e = subst (λ (z : ℤ). (lowest_margin ≤ℤ z) × (z �
         subst (λ (z : ℤ). (lowest_margin ≤ℤ z) × (z ≤ℤ highest_margin)) (sym early.1)
         (record { le = tt }, record { le = le→leb (H - bound M D) _ (omega (arith, frames, deadlines, add-mul (length D) 1 M)) })
 
-pub margin_in_range : MarginInRange
-margin_in_range κ x a l c m e = margin_inside _ _ _ m (sym c ∙ e)
-
 pub margin_ends_reached : MarginEndsReached
 unfolding margin_answer lowest sum
 margin_ends_reached = (refl, refl)
@@ -192,10 +155,9 @@ outside_means D link h = go (link_out_of_range D link) refl
     go true e = refl
     go false e = absurd (h (inside e))
 
-link_named : (M : ℕ) (D : List ℕ) (H k : ℕ)
-    → (margin_answer M D H ≡ answer DELAY_OUT_OF_RANGE (pos k)) ↔ (Asked M D H × IsLowest 0 (length D) (NotOfALink D) k)
+pub names_link : NamesLink
 unfolding margin_answer
-link_named M D H k = (λ e. let h = law.0 e in (asked h.0, h.1), λ h. law.1 (not_refused h.0, h.1))
+names_link M D H k = (λ e. let h = law.0 e in (asked h.0, h.1), λ h. law.1 (not_refused h.0, h.1))
   where
     before : List Rule
     before =
@@ -215,12 +177,9 @@ link_named M D H k = (λ e. let h = law.0 e in (asked h.0, h.1), λ h. law.1 (no
         named_exactly DELAY_OUT_OF_RANGE 0 (length D) (link_out_of_range D) (NotOfALink D) (λ j a u. outside_says D j) (λ j a u. outside_means D j)
         before [] (done_with (margin_of M D H)) k tt tt tt
 
-pub names_link : NamesLink
-names_link κ x a l c k = exactly c (link_named _ _ _ k)
-
-least_fit : (M P C c : ℕ) → fit_answer M P C ≡ done_with (pos c) → LeastTimes (P / M) C c
+pub fit_is_least : FitIsLeast
 unfolding fit_answer
-least_fit M P C c e =
+fit_is_least M P C c e =
     record {
       enough = subst (λ (x : ℕ). C ≤ x * (P / M)) same (least_reaches (P / M) C some cells);
       no_less = λ b l. lower_fails (P / M) C some cells b (omega (arith, same));
@@ -238,12 +197,9 @@ least_fit M P C c e =
     cells : 0 < C
     cells = omega (arith, eqb-false C 0 (either_false (eqb C 0) (ltb M (fit_of M P C)) known.0.1.1.0).0)
 
-pub fit_is_least : FitIsLeast
-fit_is_least κ x a l d c e = least_fit _ _ _ c (sym d ∙ e)
-
-least_cells : (bits c : ℕ) → cells_answer bits ≡ done_with (pos c) → LeastTimes carried_bits bits c
+pub cells_are_least : CellsAreLeast
 unfolding cells_answer
-least_cells bits c e =
+cells_are_least bits c e =
     record {
       enough = subst (λ (x : ℕ). bits ≤ x * carried_bits) same (least_reaches carried_bits bits (omega arith) some);
       no_less = λ b l. lower_fails carried_bits bits (omega arith) some b (omega (arith, same));
@@ -257,6 +213,3 @@ least_cells bits c e =
 
     some : 0 < bits
     some = (inside {low = 1} {high = max_bits} known.0.0).at_least
-
-pub cells_are_least : CellsAreLeast
-cells_are_least κ x a l d c e = least_cells _ c (sym d ∙ e)

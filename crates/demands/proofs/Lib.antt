@@ -1,14 +1,8 @@
-pub mod Carrying
-pub mod Contracts
-pub mod OneOutcome
-pub mod FixedList
-pub mod Lists
-pub mod BytesPast
+pub mod Delays
 pub mod Tables
 pub mod Builder
 pub mod PlanText
-pub mod Program
 pub mod Switch
-pub mod Delays
 pub mod Cycles
 pub mod Cases
+pub mod OneOutcome

@@ -22,9 +22,7 @@ use Rattle.tables.specs.Row.{row_answer, row_there, row_part}
 use Rattle.tables.proofs.Judgement
 use Rattle.tables.proofs.Rows.{some_bytes}
 use Rattle.tables.proofs.Counting.{accepted_fits}
-use Rattle.demands.specs.Tables.{Judged, DoneIffAccepted, NamesPlace, NamesSlot, NamesFlow, BytesPastIgnored, AcceptedFits, RowThereIffDone}
-use Rattle.demands.proofs.Carrying.{exactly}
-use Rattle.demands.proofs.BytesPast.{answered_alike}
+use Rattle.demands.specs.Tables.{Judged, DoneIffAccepted, NamesPlace, NamesSlot, NamesFlow, AcceptedFits, RowThereIffDone}
 
 module _ (M N : ℕ) (L T : List ℕ) where
   short : Rule
@@ -42,9 +40,9 @@ module _ (M N : ℕ) (L T : List ℕ) where
   unfolding short
   not_refused j = none_both (list_rules M N L) (short ∷ []) (not_due M N L j.in_range) (le-ltb _ _ j.long_enough, tt)
 
-done_exactly_if : (M N : ℕ) (L T : List ℕ) → (check_answer M N L T ≡ done_with (pos 0)) ↔ (Judged M N L T × Accepted M N L T)
+pub done_iff_accepted : DoneIffAccepted
 unfolding check_answer short
-done_exactly_if M N L T = (out, back)
+done_iff_accepted M N L T = (out, back)
   where
     start : List Rule
     start = list_rules M N L ++ short M N L T ∷ []
@@ -59,9 +57,6 @@ done_exactly_if M N L T = (out, back)
     back h =
         first_none (check_rules M N L T) (done_with (pos 0))
         (none_both start (entry_rules M N L T) (not_refused M N L T h.0) (Judgement.nothing_due M N L T h.1))
-
-pub done_iff_accepted : DoneIffAccepted
-done_iff_accepted κ x a l c = exactly c (done_exactly_if _ _ _ _)
 
 -- the three refusals of entries, each behind those before it
 module _ (M N : ℕ) (L T : List ℕ) where
@@ -102,10 +97,9 @@ module _ (M N : ℕ) (L T : List ℕ) where
     tt,
   )
 
-place_named : (M N : ℕ) (L T : List ℕ) (p : ℕ)
-    → (check_answer M N L T ≡ answer ENTRY_NOT_OF_ROW (pos p)) ↔ (Judged M N L T × IsLowest 0 (N * M) (NotOfRow M L T) p)
+pub names_place : NamesPlace
 unfolding check_answer short places slots flows
-place_named M N L T p = (λ e. let h = law.0 e in (judged M N L T h.0, h.1), λ h. law.1 (not_refused M N L T h.0, h.1))
+names_place M N L T p = (λ e. let h = law.0 e in (judged M N L T h.0, h.1), λ h. law.1 (not_refused M N L T h.0, h.1))
   where
     law : (check_answer M N L T ≡ answer ENTRY_NOT_OF_ROW (pos p)) ↔ (NoneHolds (list_rules M N L ++ short M N L T ∷ []) × IsLowest 0 (N * M) (NotOfRow M L T) p)
     law =
@@ -113,14 +107,9 @@ place_named M N L T p = (λ e. let h = law.0 e in (judged M N L T h.0, h.1), λ 
         (λ k a w. Judgement.not_of_row_means M N L T k) (list_rules M N L ++ short M N L T ∷ []) (slots M N L T ∷ flows M N L T ∷ [])
         (done_with (pos 0)) p tt tt tt
 
-pub names_place : NamesPlace
-names_place κ x a l c p = exactly c (place_named _ _ _ _ p)
-
-slot_named : (M N : ℕ) (L T : List ℕ) (s : ℕ)
-    → (check_answer M N L T ≡ answer INPUT_TWICE_IN_SLOT (pos s))
-    ↔ (Judged M N L T × ((p : ℕ) → p < N * M → NotOfRow M L T p → ⊥) × IsLowest 0 M (InputTwice M N L T) s)
+pub names_slot : NamesSlot
 unfolding check_answer short places slots flows
-slot_named M N L T s = (out, λ h. law.1 (none_both start (places M N L T ∷ []) (not_refused M N L T h.0) (place_none M N L T h.1), h.2))
+names_slot M N L T s = (out, λ h. law.1 (none_both start (places M N L T ∷ []) (not_refused M N L T h.0) (place_none M N L T h.1), h.2))
   where
     start : List Rule
     start = list_rules M N L ++ short M N L T ∷ []
@@ -130,23 +119,14 @@ slot_named M N L T s = (out, λ h. law.1 (none_both start (places M N L T ∷ []
         named_exactly INPUT_TWICE_IN_SLOT 0 M (input_twice M N L T) (InputTwice M N L T) (λ k a w. Judgement.twice_says M N L T k)
         (λ k a w. Judgement.twice_means M N L T k (omega arith)) (start ++ places M N L T ∷ []) (flows M N L T ∷ []) (done_with (pos 0)) s tt tt tt
 
-    out : check_answer M N L T ≡ answer INPUT_TWICE_IN_SLOT (pos s)
-        → Judged M N L T × ((p : ℕ) → p < N * M → NotOfRow M L T p → ⊥) × IsLowest 0 M (InputTwice M N L T) s
+    out : check_answer M N L T ≡ answer INPUT_TWICE_IN_SLOT (pos s) → Judged M N L T × ((p : ℕ) → p < N * M → NotOfRow M L T p → ⊥) × IsLowest 0 M (InputTwice M N L T) s
     out e =
         let h = law.0 e in
         (judged M N L T (none_first start (places M N L T ∷ []) h.0), no_place M N L T (none_later start (places M N L T ∷ []) h.0), h.1)
 
-pub names_slot : NamesSlot
-names_slot κ x a l c s = exactly c (slot_named _ _ _ _ s)
-
-flow_named : (M N : ℕ) (L T : List ℕ) (k : ℕ)
-    → (check_answer M N L T ≡ answer COUNT_WRONG (pos k))
-    ↔ (Judged M N L T
-    × ((p : ℕ) → p < N * M → NotOfRow M L T p → ⊥)
-    × ((s : ℕ) → s < M → InputTwice M N L T s → ⊥)
-    × IsLowest 1 (flow_count L) (CountWrong M N L T) k)
+pub names_flow : NamesFlow
 unfolding check_answer short places slots flows
-flow_named M N L T k = (
+names_flow M N L T k = (
   out,
   λ h.
       law.1 (
@@ -168,26 +148,14 @@ flow_named M N L T k = (
         (λ k a w. Judgement.count_wrong_means M N L T k) (start ++ before) [] (done_with (pos 0)) k tt tt tt
 
     out : check_answer M N L T ≡ answer COUNT_WRONG (pos k)
-        → Judged M N L T
-        × ((p : ℕ) → p < N * M → NotOfRow M L T p → ⊥)
-        × ((s : ℕ) → s < M → InputTwice M N L T s → ⊥)
-        × IsLowest 1 (flow_count L) (CountWrong M N L T) k
+        → Judged M N L T × ((p : ℕ) → p < N * M → NotOfRow M L T p → ⊥) × ((s : ℕ) → s < M → InputTwice M N L T s → ⊥) × IsLowest 1 (flow_count L) (CountWrong M N L T) k
     out e =
         let h = law.0 e in
         let wrong = none_later start before h.0 in
         (judged M N L T (none_first start before h.0), no_place M N L T (wrong.0, tt), no_slot M N L T (wrong.1.0, tt), h.1)
 
-pub names_flow : NamesFlow
-names_flow κ x a l c k = exactly c (flow_named _ _ _ _ k)
-
-pub bytes_past_ignored : BytesPastIgnored
-bytes_past_ignored κ x a l c κ' y b m d e f g t u same =
-    let alike : check_answer y.0 y.1.0 y.1.1.0.now y.1.1.1.0.now ≡ check_answer x.0 x.1.0 x.1.1.0.now y.1.1.1.0.now =
-    λ i. check_answer (sym e i) (sym f i) (sym g i) y.1.1.1.0.now in
-    c ∙ answered_alike _ _ _ _ _ same t u ∙ sym (d ∙ alike)
-
-there_exactly : (M N : ℕ) (T : List ℕ) (j : ℕ) → ((row_answer M N (length T) j).number ≡ DONE) ↔ (row_part M N T j ≡ [] → ⊥)
-there_exactly M N T j = (λ d. some_bytes M N T j (row_answer M N (length T) j) refl d, back)
+pub row_there_iff_done : RowThereIffDone
+row_there_iff_done M N T j = (λ d. some_bytes M N T j (row_answer M N (length T) j) refl d, back)
   where
     back : (row_part M N T j ≡ [] → ⊥) → (row_answer M N (length T) j).number ≡ DONE
     back h = go (row_there M N (length T) j) refl
@@ -195,14 +163,6 @@ there_exactly M N T j = (λ d. some_bytes M N T j (row_answer M N (length T) j) 
         go : (b : Bool) → row_there M N (length T) j ≡ b → (row_answer M N (length T) j).number ≡ DONE
         go true e = eqb-true _ _ e
         go false e = absurd (h (ap (λ (b : Bool). cond b (take M (drop ((j - 1) * M) T)) []) e))
-
-pub row_there_iff_done : RowThereIffDone
-row_there_iff_done κ x part l c κ' y a m d e f g h =
-    let alike : row_answer y.0 y.1.0 (length y.1.1.0.now) y.1.1.1.0 ≡ row_answer x.0 x.1.0 (length x.1.1.0.now) x.1.1.1.0 =
-    λ i. row_answer (sym e i) (sym f i) (length (sym g i)) (sym h i) in
-    let law = there_exactly x.0 x.1.0 x.1.1.0.now x.1.1.1.0 in
-    let number = ap (λ (b : Answer). b.number) (d ∙ alike) in
-    (λ z p. law.0 (sym number ∙ z) (sym c.0 ∙ p), λ z. number ∙ law.1 (λ p. z (c.0 ∙ p)))
 
 pub accepted_asks_no_more : AcceptedFits
 accepted_asks_no_more M N L T acc = accepted_fits M N L T acc

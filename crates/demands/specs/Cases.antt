@@ -1,22 +1,17 @@
--- The starred cases of document 01, and the cases of the frame's limit, of links that take longer, of the cells of a message, of entries without
--- a count and of the shore network, in one table.
+-- The starred cases of document 01, and the cases of the frame's limit, of links that take longer, of the cells of a message, of entries without a count and of the shore network, in one table.
 use Rattle.std.specs.Prelude.{ℕ, ◌*◌, ◌≡◌, List, [], ◌∷◌, pos, negsuc, replicate}
 use Rattle.answers.specs.declared.Answer.{Answer}
-use Rattle.answers.specs.Numbers.{FRAME_OUT_OF_RANGE, LIST_MISSHAPEN, FLOW_OUT_OF_RANGE, INPUT_OVERLOADED, OUTPUT_OVERLOADED, ENTRY_NOT_OF_ROW}
-use Rattle.answers.specs.Numbers.{INPUT_TWICE_IN_SLOT, COUNT_WRONG}
-use Rattle.answers.specs.Numbers.{LINKS_OUT_OF_RANGE, DEADLINE_OUT_OF_RANGE, PERIOD_OUT_OF_RANGE, PERIOD_DOES_NOT_FIT, DELAY_OUT_OF_RANGE}
-use Rattle.answers.specs.Numbers.{POSITION_PAST_FRAME, ENTRY_ABOVE_COUNTS, BUFFER_TOO_SMALL}
-use Rattle.answers.specs.Numbers.{MESSAGE_MISSHAPEN, MESSAGE_ABOVE_WINDOW, TRD_ASKED_OUT_OF_RANGE, CYCLES_MISSIZED}
+use Rattle.answers.specs.Numbers.{FRAME_OUT_OF_RANGE, INPUT_OVERLOADED, OUTPUT_OVERLOADED, ENTRY_NOT_OF_ROW, INPUT_TWICE_IN_SLOT, COUNT_WRONG, LINKS_OUT_OF_RANGE, DEADLINE_OUT_OF_RANGE, PERIOD_OUT_OF_RANGE, PERIOD_DOES_NOT_FIT, DELAY_OUT_OF_RANGE, POSITION_PAST_FRAME, ENTRY_ABOVE_COUNTS, BUFFER_TOO_SMALL, MESSAGE_MISSHAPEN, MESSAGE_ABOVE_WINDOW, TRD_ASKED_OUT_OF_RANGE, CYCLES_MISSIZED}
 use Rattle.answers.specs.Answers.{answer, refusal, done_with}
 use Rattle.margins.specs.Margins.{margin_answer, room_answer, fit_answer, cells_answer}
-use Rattle.shore.specs.Cycle.{Network, network}
-use Rattle.shore.specs.Run.{STILL_WAITING, RELEASED_PAST_RUN}
-use Rattle.trd.specs.Trd.{trd_answer}
+use Rattle.cycles.specs.Cycle.{Network, network}
+use Rattle.cycles.specs.Run.{STILL_WAITING, RELEASED_PAST_RUN}
+use Rattle.cycles.specs.Trd.{trd_answer}
 use Rattle.cycles.specs.Promises.{Cycled, RunOver}
 use Rattle.tables.specs.Check.{check_answer}
 use Rattle.builder.specs.Build.{build_answer}
 use Rattle.forwarding.specs.Forwarding.{slot_answer}
-use Rattle.forwarding.specs.Calls.{running_at}
+use Rattle.forwarding.specs.Histories.{running_at}
 
 -- a call and the answer that the documents give for it; of a cycle and of a run also the lent buffers, before and after
 pub data Case : Type 0 where
@@ -80,13 +75,6 @@ cases =
     -- frame 1
     ∷ build 1 2 (1 ∷ 1 ∷ 1 ∷ 1 ∷ 2 ∷ 1 ∷ []) (answer INPUT_OVERLOADED (pos 1))
     ∷ build 1 2 (1 ∷ 1 ∷ 1 ∷ 2 ∷ 1 ∷ 1 ∷ []) (answer OUTPUT_OVERLOADED (pos 1))
-    -- refusal 4 names the lowest flow that is out of range, by its input, its output or its cells; a list that is not of threes has no flow to name,
-    -- and is refused first
-    ∷ check 5 4 (1 ∷ 1 ∷ 3 ∷ 5 ∷ 2 ∷ 2 ∷ 2 ∷ 0 ∷ 2 ∷ []) [] (answer FLOW_OUT_OF_RANGE (pos 2))
-    ∷ check 5 4 (1 ∷ 1 ∷ 3 ∷ 1 ∷ 2 ∷ 2 ∷ 2 ∷ 5 ∷ 2 ∷ []) [] (answer FLOW_OUT_OF_RANGE (pos 3))
-    ∷ build 5 4 (1 ∷ 1 ∷ 6 ∷ 0 ∷ 2 ∷ 2 ∷ []) (answer FLOW_OUT_OF_RANGE (pos 1))
-    ∷ build 5 4 (1 ∷ 1 ∷ 5 ∷ 1 ∷ 2 ∷ 0 ∷ []) (answer FLOW_OUT_OF_RANGE (pos 2))
-    ∷ check 5 4 (0 ∷ 0 ∷ []) [] (refusal LIST_MISSHAPEN)
     -- frame 5
     ∷ fit 5 11 3 (done_with (pos 2))
     ∷ fit 5 4 3 (refusal PERIOD_OUT_OF_RANGE)
@@ -149,10 +137,8 @@ cases =
     -- no links and no messages
     ∷ cycle (network [] [] []) [] [] [] (done_with (pos 0)) [] []
     -- 30 for a link that is not there, for an empty set and for size 0, the lowest message named; and before 31, though that message is higher
-    ∷ cycle (network (8 ∷ []) (1 ∷ 1 ∷ 0 ∷ []) (1 ∷ 2 ∷ 1 ∷ [])) (1 ∷ 1 ∷ 1 ∷ []) (replicate 3 9) (7 ∷ [])
-    (answer MESSAGE_MISSHAPEN (pos 1)) (replicate 3 9) (7 ∷ [])
-    ∷ cycle (network (8 ∷ []) (1 ∷ 1 ∷ 0 ∷ []) (1 ∷ 1 ∷ 1 ∷ [])) (1 ∷ 1 ∷ 1 ∷ []) (replicate 3 9) (7 ∷ [])
-    (answer MESSAGE_MISSHAPEN (pos 2)) (replicate 3 9) (7 ∷ [])
+    ∷ cycle (network (8 ∷ []) (1 ∷ 1 ∷ 0 ∷ []) (1 ∷ 2 ∷ 1 ∷ [])) (1 ∷ 1 ∷ 1 ∷ []) (replicate 3 9) (7 ∷ []) (answer MESSAGE_MISSHAPEN (pos 1)) (replicate 3 9) (7 ∷ [])
+    ∷ cycle (network (8 ∷ []) (1 ∷ 1 ∷ 0 ∷ []) (1 ∷ 1 ∷ 1 ∷ [])) (1 ∷ 1 ∷ 1 ∷ []) (replicate 3 9) (7 ∷ []) (answer MESSAGE_MISSHAPEN (pos 2)) (replicate 3 9) (7 ∷ [])
     ∷ cycle (network (8 ∷ []) (9 ∷ 1 ∷ []) (1 ∷ 0 ∷ [])) (1 ∷ 1 ∷ []) (replicate 2 9) (7 ∷ []) (answer MESSAGE_MISSHAPEN (pos 1)) (replicate 2 9) (7 ∷ [])
     -- 31: 8 slots fill the window, 9 do not fit; a message that is not ready is refused too
     ∷ cycle (network (8 ∷ []) (8 ∷ []) (1 ∷ [])) (1 ∷ []) (9 ∷ []) (7 ∷ []) (done_with (pos 0)) (1 ∷ []) (8 ∷ [])

@@ -1,17 +1,14 @@
 -- The plan text: one form, which is what the reader accepts and the writer writes, and nothing else.
 use Rattle.std.specs.Prelude.{ℕ, ◌+◌, ◌*◌, ◌≤◌, ◌<◌, ◌≡◌, ◌↔◌, true, List, [], ◌∷◌, length, get_or, take, pos}
 use Rattle.std.specs.Int.Signed.{mag}
-use Rattle.answers.specs.declared.Answer.{Answer}
 use Rattle.answers.specs.Numbers.{DONE, TEXT_NOT_OF_FORM}
 use Rattle.answers.specs.Limits.{max_text, Within}
 use Rattle.answers.specs.Answers.{answer, done_with}
-use Rattle.flows.specs.Flows.{per_flow, flow_count, InRange}
+use Rattle.flows.specs.Flows.{per_flow, flow_count}
 use Rattle.plan_text.specs.Digits.{zero_byte, digits}
 use Rattle.plan_text.specs.Form.{max_number, text_of_plan, OfForm, LongestBeginning}
 use Rattle.plan_text.specs.Reading.{is_of_form, frame_in, ports_in, list_in}
-use Rattle.plan_text.specs.Plans.{over}
-use Rattle.plan_text.specs.declared.reading.Plan.{Plan}
-use Rattle.demands.specs.Calls.{EveryRead, EveryWrite}
+use Rattle.plan_text.specs.Plans.{over, read_answer, read_plan, read_into, write_answer, written_into}
 
 -- "A number is 0, or 1 to 5 digits without a leading 0."
 pub record IsNumber (bytes : List ℕ) : Type 0 where
@@ -50,47 +47,37 @@ TextOfThePlan = (text : List ℕ) → OfForm text → text_of_plan (frame_in tex
 abbrev pub OnePlan : Type 0
 OnePlan = (text : List ℕ) (a b : OfForm text) → (a.frame ≡ b.frame) × (a.ports ≡ b.ports) × (a.list ≡ b.list)
 
--- refusal 20 names n exactly if the text is within its limit and not of the form, and n is the "length of its longest prefix that begins some text of
--- the form, of any length"
+-- refusal 20 names p exactly if the text is within its limit and not of the form, and p is the "length of its longest prefix that begins some text of the form, of any length"
 abbrev pub NamesLongest : Type 0
 NamesLongest =
-    EveryRead
-    (λ text B p B'. (n : ℕ)
-    → (p.answer ≡ answer TEXT_NOT_OF_FORM (pos n)) ↔ ((length text ≤ max_text) × (OfForm text → ⊥) × LongestBeginning text n))
-
--- a text is read with 0 exactly if it is within its limit and of the form, its plan is in range, and its list has room
-abbrev pub ReadGiven : Type 0
-ReadGiven =
-    EveryRead
-    (λ text B p B'. (p.answer.number ≡ DONE)
-    ↔ ((length text ≤ max_text) × OfForm text × InRange (frame_in text) (ports_in text) (list_in text) × (length (list_in text) ≤ length B)))
-
--- and a plan is written with 0 exactly if it is in range and its text has room
-abbrev pub WriteGiven : Type 0
-WriteGiven = EveryWrite (λ M N L X a X'. (a.number ≡ DONE) ↔ (InRange M N L × (length (text_of_plan M N L) ≤ length X)))
+    (text : List ℕ) (room p : ℕ)
+    → (read_answer text room ≡ answer TEXT_NOT_OF_FORM (pos p)) ↔ ((length text ≤ max_text) × (OfForm text → ⊥) × LongestBeginning text p)
 
 -- the list that reading leaves in the lent buffer: three numbers for each flow that the detail counts
-abbrev pub list_read : Plan → List ℕ → List ℕ
-list_read p B = take (per_flow * mag p.answer.detail) B
+abbrev pub list_read : List ℕ → List ℕ → List ℕ
+list_read text buffer = take (per_flow * mag (read_plan text (length buffer)).answer.detail) (read_into text buffer)
+
+-- the frame and the ports that it hands back
+abbrev pub frame_read : List ℕ → List ℕ → ℕ
+frame_read text buffer = (read_plan text (length buffer)).frame
+
+abbrev pub ports_read : List ℕ → List ℕ → ℕ
+ports_read text buffer = (read_plan text (length buffer)).ports
+
+-- the text that writing leaves in the lent buffer: as many bytes as the detail says
+abbrev pub text_written : ℕ → ℕ → List ℕ → List ℕ → List ℕ
+text_written M N L space = take (mag (write_answer M N L (length space)).detail) (written_into M N L space)
 
 -- "Reading then writing gives the same bytes for each text read with 0", where they have room
 abbrev pub ReadThenWrite : Type 0
 ReadThenWrite =
-    EveryRead
-    (λ text B p B'. p.answer.number ≡ DONE
-    → EveryWrite
-    (λ M N L X a X'. M ≡ p.frame → N ≡ p.ports → L ≡ list_read p B' → length text ≤ length X
-    → (a ≡ done_with (pos (length text))) × (X' ≡ over text X)))
-
--- the text that writing leaves in the lent buffer: as many bytes as the detail says
-abbrev pub text_written : Answer → List ℕ → List ℕ
-text_written a X = take (mag a.detail) X
+    (text buffer space : List ℕ) → (read_plan text (length buffer)).answer.number ≡ DONE → length text ≤ length space
+    → (write_answer (frame_read text buffer) (ports_read text buffer) (list_read text buffer) (length space) ≡ done_with (pos (length text)))
+    × (written_into (frame_read text buffer) (ports_read text buffer) (list_read text buffer) space ≡ over text space)
 
 -- "writing then reading gives the same plan for each plan written with 0", where its list has room
 abbrev pub WriteThenRead : Type 0
 WriteThenRead =
-    EveryWrite
-    (λ M N L X a X'. a.number ≡ DONE
-    → EveryRead
-    (λ text B p B'. text ≡ text_written a X' → length L ≤ length B
-    → (p ≡ record { answer = done_with (pos (flow_count L)); frame = M; ports = N; flows = flow_count L }) × (B' ≡ over L B)))
+    (M N : ℕ) (L space buffer : List ℕ) → (write_answer M N L (length space)).number ≡ DONE → length L ≤ length buffer
+    → (read_plan (text_written M N L space) (length buffer) ≡ record { answer = done_with (pos (flow_count L)); frame = M; ports = N })
+    × (read_into (text_written M N L space) buffer ≡ over L buffer)

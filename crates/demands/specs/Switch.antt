@@ -1,48 +1,15 @@
--- The switch: what a flow is sure of while one accepted table is in force. What refusal 28 tells stands in crate forwarding, what is counted over a history
--- of calls in crate histories, beside the definitions that they speak of. This page gathers them under the sentences they answer, and ties them to the
--- functions: a call of one is a step of a history.
-use Rattle.std.specs.Prelude.{◌≡◌, length}
-use Rattle.answers.specs.declared.Answer.{Answer}
-use Rattle.forwarding.specs.declared.Running.{Running}
-use Rattle.forwarding.specs.Calls.{State, Call, state_of, a_fresh_start, an_offer, a_slot, answer_of, step, sent_after}
-use Rattle.demands.specs.Calls.{EveryFreshStart, EveryOffer, EverySlot, EveryFreshStartIn, EverySlotIn}
--- demand 3, "in any M consecutive slots each flow sends at most its reservation and at least the smaller of its reservation and what it had waiting
--- when the window opened"
-pub use Rattle.histories.specs.Shares.{Window, UpperShare, LowerShare}
--- demand 3, "what a flow gets does not depend on what other flows offer"
-pub use Rattle.histories.specs.Isolation.{SameBut, Isolation}
+-- The switch: what a flow is sure of while one accepted table is in force. The statements stand in crate forwarding, beside the definitions of a call,
+-- of a history of calls and of a window that they speak of; this page gathers them under the sentences they answer.
+
+-- "in any M consecutive slots each flow sends at most its reservation and at least the smaller of its reservation and what it had waiting when the window opened"
+pub use Rattle.forwarding.specs.Shares.{Window, UpperShare, LowerShare}
+-- "what a flow gets does not depend on what other flows offer"
+pub use Rattle.forwarding.specs.Isolation.{SameBut, Isolation}
 -- "each flow's accepted offers equal its cells sent plus its cells waiting, the first two counted from the history of calls"
-pub use Rattle.histories.specs.Count.{CellsKept}
--- cells waiting per flow are 0 to 4,000: from a fresh start no waiting count passes the limit, whatever is called
-pub use Rattle.histories.specs.WaitingLimit.{NeverPastLimit}
+pub use Rattle.forwarding.specs.Count.{CellsKept}
 -- the cells that a history counts as sent are those that the sent buffer shows, and "bytes past N sent stay"
-pub use Rattle.histories.specs.SentBuffer.{CellsShown, BytesPastStay}
+pub use Rattle.forwarding.specs.SentBuffer.{CellsShown, BytesPastStay}
 -- refusal 28: "the place in the table, looking only at the current position, lowest output first, after 11"; "an accepted table with K counts never meets this"
-pub use Rattle.forwarding.specs.AboveCounts.{NamesEntry, SizesDecide}
-pub use Rattle.histories.specs.NeverAbove.{NeverInWindow}
-
--- a call that was made in state st, was answered with a and left state st' is the step of a history
-pub record Steps (st : State) (c : Call) (a : Answer) (st' : State) : Type 0 where
-  pub answered : a ≡ answer_of st c
-  pub left : st' ≡ step st c
-
--- so is every call of these functions, refused ones too; what it leaves is the record and every count
-abbrev pub FreshStartSteps : Type 0
-FreshStartSteps = EveryFreshStart (λ r M N W o W'. Steps (state_of r W) (a_fresh_start M N) o.answer (state_of o.running W'))
-
--- an offer is not handed the record, and any record stays
-abbrev pub OfferSteps : Type 0
-OfferSteps = EveryOffer (λ W k n a W'. (r : Running) → Steps (state_of r W) (an_offer k n) a (state_of r W'))
-
--- and of a slot the sent buffer besides
-abbrev pub SlotSteps : Type 0
-SlotSteps =
-    EverySlot (λ r T W S o W' S'. Steps (state_of r W) (a_slot T (length S)) o.answer (state_of o.running W') × (S' ≡ sent_after (state_of r W) T S))
-
--- the functions that are lent the record do the same to it
-abbrev pub FreshStartInSteps : Type 0
-FreshStartInSteps = EveryFreshStartIn (λ r M N W a r' W'. Steps (state_of r W) (a_fresh_start M N) a (state_of r' W'))
-
-abbrev pub SlotInSteps : Type 0
-SlotInSteps =
-    EverySlotIn (λ r T W S a r' W' S'. Steps (state_of r W) (a_slot T (length S)) a (state_of r' W') × (S' ≡ sent_after (state_of r W) T S))
+pub use Rattle.forwarding.specs.AboveCounts.{NamesEntry, SizesDecide, NeverInWindow}
+-- no call has two different outcomes under its promise: `FreshStarted`, `Offered` and `SlotServed` are the contracts of the functions, the thin ones too
+pub use Rattle.forwarding.specs.Promises.{FreshStarted, Offered, SlotServed, OneFreshStart, OneOffer, OneSlot}

@@ -1,4 +1,2 @@
-pub mod Accessors
 pub mod Loads
 pub mod Shape
-pub mod Listing

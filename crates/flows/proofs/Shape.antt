@@ -1,12 +1,12 @@
 -- What the refusals of a list leave known of it.
-use Prim.Native.Nat.{ℕ, zero, suc, ◌+◌, ◌*◌, ◌/◌, ◌%◌, ◌≤◌, ◌<◌}
+use Prim.Native.Nat.{ℕ, suc, ◌+◌, ◌*◌, ◌/◌, ◌%◌, ◌≤◌}
 use mathlib.Core.Path.{◌≡◌, refl, sym, ◌∙◌}
 use mathlib.Core.Bool.{Bool, true, false, not, ◌||◌, true≢false}
 use mathlib.Core.List.{List, []}
 use native.Mathlib.Omega.{arith}
 use borrow.Author.Tests.{eqb-true, ltb-false, not-false, eq-eqb, le-ltb}
 use lib.IntN.{pos}
-use lib.ListN.{length, get_or}
+use lib.ListN.{length}
 use lib.Dec.{eqb, ltb}
 use Rattle.answers.specs.declared.Answer.{Answer}
 use Rattle.answers.specs.Numbers.{DONE}
@@ -15,9 +15,7 @@ use Rattle.answers.specs.Answers.{done_with}
 use Rattle.answers.proofs.Ranges.{either_false, inside, within_test}
 use Rattle.answers.proofs.Lowest.{Nowhere, somewhere_false, nowhere_test}
 use Rattle.answers.proofs.First.{NoneHolds, none_of_them}
-use Rattle.flows.specs.Flows.{per_flow, flow_count, IsFlow, number_of, input_of, output_of, cells_of, misshapen, outputs_out_of_range}
-use Rattle.flows.specs.Flows.{flow_out_of_range, GoodList, InRange, list_rules, list_answer}
-use Rattle.flows.proofs.Accessors.{number_there}
+use Rattle.flows.specs.Flows.{per_flow, flow_count, IsFlow, input_of, output_of, cells_of, misshapen, outputs_out_of_range, flow_out_of_range, GoodList, InRange, list_rules, list_answer}
 
 -- a list that is not misshapen is of threes, and not too long
 pub of_threes : (L : List ℕ) → misshapen L ≡ false → length L ≡ per_flow * flow_count L
@@ -30,8 +28,7 @@ not_too_many L e =
     let both = either_false (not (eqb (length L % per_flow) 0)) (ltb (per_flow * max_flows) (length L)) e in
     omega (arith, ltb-false (per_flow * max_flows) (length L) both.1)
 
--- a flow of which no number is out of range has its ports and its cells
-pub outside_flow : (M N : ℕ) (L : List ℕ) (k : ℕ) → flow_out_of_range M N L k ≡ false
+outside_flow : (M N : ℕ) (L : List ℕ) (k : ℕ) → flow_out_of_range M N L k ≡ false
     → Within 1 N (input_of L k) × Within 1 N (output_of L k) × Within 1 M (cells_of L k)
 outside_flow M N L k e =
     let first = either_false (outside 1 N (input_of L k)) (outputs_out_of_range N L k || outside 1 M (cells_of L k)) e in
@@ -63,8 +60,9 @@ in_range M N L h =
           (λ k a z. somewhere_false 1 (flow_count L) (flow_out_of_range M N L) h.1.1.1.0 k a (omega arith));
     }
 
-pub right_shape : (L : List ℕ) → length L ≡ per_flow * flow_count L → flow_count L ≤ max_flows → misshapen L ≡ false
-right_shape L threes few = simp (eq-eqb (length L % per_flow) 0 (omega (arith, threes)), le-ltb (per_flow * max_flows) (length L) (omega (arith, threes, few)))
+right_shape : (M N : ℕ) (L : List ℕ) → GoodList M N L → misshapen L ≡ false
+right_shape M N L g =
+    simp (eq-eqb (length L % per_flow) 0 (omega (arith, g.of_threes)), le-ltb (per_flow * max_flows) (length L) (omega (arith, g.of_threes, g.not_too_many)))
 
 pub not_due : (M N : ℕ) (L : List ℕ) → InRange M N L → NoneHolds (list_rules M N L)
 not_due M N L r = (
@@ -72,7 +70,7 @@ not_due M N L r = (
   (
     within_test r.ports_in_range,
     (
-      right_shape L r.good_list.of_threes r.good_list.not_too_many,
+      right_shape M N L r.good_list,
       (nowhere_test 1 (flow_count L) (flow_out_of_range M N L) flow, tt),
     ),
   ),
@@ -87,15 +85,3 @@ not_due M N L r = (
 pub listed : (M N : ℕ) (L : List ℕ) (a : Answer) → a ≡ list_answer M N L → a.number ≡ DONE → InRange M N L
 unfolding list_answer
 listed M N L a e d = in_range M N L (none_of_them (list_rules M N L) [] (done_with (pos 0)) a e tt d)
-
--- every number of a good list is at most the larger of frame and ports
-pub number_at_most : (M N : ℕ) (L : List ℕ) → GoodList M N L → (most : ℕ) → M ≤ most → N ≤ most → (i : ℕ) → i < length L → get_or L i 0 ≤ most
-number_at_most M N L g most m n i u =
-    let flow : IsFlow L (i / per_flow + 1) = record { at_least = omega arith; at_most = omega (arith, g.of_threes) } in
-    omega (arith, number_there L i, of_flow (i / per_flow + 1) flow (i % per_flow) (omega arith))
-  where
-    of_flow : (k : ℕ) → IsFlow L k → (place : ℕ) → place < per_flow → number_of L k place ≤ most
-    of_flow k f zero l = omega (arith, (g.inputs k f).at_most)
-    of_flow k f (suc zero) l = omega (arith, (g.outputs k f).at_most)
-    of_flow k f (suc (suc zero)) l = omega (arith, (g.cells k f).at_most)
-    of_flow k f (suc (suc (suc place))) l = absurd (omega arith)

@@ -1,10 +1,9 @@
 -- The flow list: three numbers a flow, read through the accessors below and in no other way. Flows count from 1, in list order.
-use Rattle.std.specs.Prelude.{ℕ, zero, suc, ◌+◌, ◌*◌, ◌/◌, ◌%◌, ◌≤◌, ◌≡◌, Bool, true, not, cond, ◌||◌, List, [], ◌∷◌, ◌++◌, pos, length, get_or, eqb, ltb}
+use Rattle.std.specs.Prelude.{ℕ, suc, ◌+◌, ◌-◌, ◌*◌, ◌/◌, ◌%◌, ◌≤◌, ◌≡◌, Bool, true, not, cond, ◌||◌, List, [], ◌∷◌, pos, length, get_or, eqb, ltb}
 use Rattle.answers.specs.declared.Answer.{Answer}
-use Rattle.answers.specs.Numbers.{LIST_MISSHAPEN, FLOW_OUT_OF_RANGE}
+use Rattle.answers.specs.Numbers.{FRAME_OUT_OF_RANGE, PORTS_OUT_OF_RANGE, LIST_MISSHAPEN, FLOW_OUT_OF_RANGE}
 use Rattle.answers.specs.Limits.{max_frame, max_ports, max_flows, outside, Within}
 use Rattle.answers.specs.Answers.{Rule, refusal, done_with, ◌when◌, naming_lowest, first}
-use Rattle.answers.specs.Sizes.{size_rules}
 use Rattle.answers.specs.Sums.{sum}
 
 -- how many numbers a flow takes in the list
@@ -19,22 +18,17 @@ flow_count L = length L / per_flow
 abbrev pub IsFlow : List ℕ → ℕ → Type 0
 IsFlow L k = Within 1 (flow_count L) k
 
--- one of flow k's numbers, by its place among them; there is no flow 0, and 0 is read for it, as where the list has no such number
-abbrev pub number_of : List ℕ → ℕ → ℕ → ℕ
-number_of L zero place = 0
-number_of L (suc k) place = get_or L (per_flow * k + place) 0
-
 -- flow k's input
 abbrev pub input_of : List ℕ → ℕ → ℕ
-input_of L k = number_of L k 0
+input_of L k = get_or L (per_flow * (k - 1)) 0
 
 -- flow k's output
 abbrev pub output_of : List ℕ → ℕ → ℕ
-output_of L k = number_of L k 1
+output_of L k = get_or L (per_flow * (k - 1) + 1) 0
 
 -- flow k's cells per frame: its reservation
 abbrev pub cells_of : List ℕ → ℕ → ℕ
-cells_of L k = number_of L k 2
+cells_of L k = get_or L (per_flow * (k - 1) + 2) 0
 
 -- flow k's cells come from input i
 abbrev pub comes_from : List ℕ → ℕ → ℕ → Bool
@@ -98,16 +92,14 @@ pub record Fitting (M N : ℕ) (L : List ℕ) : Type 0 where
   pub inputs_fit : (i : ℕ) → Within 1 N i → input_load L i ≤ M
   pub outputs_fit : (j : ℕ) → Within 1 N j → output_load L j ≤ M
 
--- the refusals of the list alone, in their order: 3, 4
-abbrev pub flow_rules : ℕ → ℕ → List ℕ → List Rule
-flow_rules M N L =
-    (refusal LIST_MISSHAPEN when misshapen L)
+-- the refusals of frame, ports and list, which every call that takes a list gives first, in this order
+abbrev pub list_rules : ℕ → ℕ → List ℕ → List Rule
+list_rules M N L =
+    (refusal FRAME_OUT_OF_RANGE when outside 1 max_frame M)
+    ∷ (refusal PORTS_OUT_OF_RANGE when outside 1 max_ports N)
+    ∷ (refusal LIST_MISSHAPEN when misshapen L)
     ∷ naming_lowest FLOW_OUT_OF_RANGE 1 (flow_count L) (flow_out_of_range M N L)
     ∷ []
-
--- the refusals of frame, ports and list, which every call that takes a list gives first, in their order: 1, 2, 3, 4
-abbrev pub list_rules : ℕ → ℕ → List ℕ → List Rule
-list_rules M N L = size_rules M N ++ flow_rules M N L
 
 -- the first of them, or done
 unfoldable pub list_answer : ℕ → ℕ → List ℕ → Answer

@@ -1,32 +1,35 @@
 // The flow list: three 16-bit numbers a flow, input, output and cells per frame. Whoever reads a list reads it through these functions.
-ghost use Rattle.std.specs.Prelude.{◌≡◌, ◌<◌, ◌≤◌};
+ghost use Rattle.std.specs.Prelude.{◌≡◌, ◌+◌, ◌-◌, ◌*◌, ◌<◌, ◌≤◌, get_or};
 ghost use Rattle.answers.specs.Limits.{max_ports};
 ghost use Rattle.answers.specs.Lowest.{lowest};
-ghost use Rattle.flows.specs.Flows.{per_flow, flow_count, number_of, input_of, output_of, cells_of, comes_from, goes_to, misshapen};
-ghost use Rattle.flows.specs.Flows.{flow_out_of_range, outputs_out_of_range, cells_at, list_answer, overloaded, input_overloaded, output_overloaded};
+ghost use Rattle.flows.specs.Flows.{per_flow, flow_count, input_of, output_of, cells_of, comes_from, goes_to, misshapen, flow_out_of_range, outputs_out_of_range, cells_at, list_answer, overloaded, input_overloaded, output_overloaded};
 
-use answers::{Answer, DONE, FLOW_OUT_OF_RANGE, LIST_MISSHAPEN, MAX_FLOWS};
+use answers::{
+    Answer, DONE, FLOW_OUT_OF_RANGE, FRAME_OUT_OF_RANGE, LIST_MISSHAPEN, MAX_FLOWS, MAX_FRAME,
+    MAX_PORTS, PORTS_OUT_OF_RANGE,
+};
 
 pub const PER_FLOW: usize = 3;
 
-// One of a flow's numbers, by its place among them, and 0 where the list has no such number. A list has fewer flows than numbers,
-// so the place in the list is not counted for a flow that could make it wrap.
-fn number_of(list: &[u16], flow: usize, place: usize) -> usize
-    requires { place < per_flow }
-    ensures { result ≡ number_of list.now flow place }
+fn wide(x: u16) -> usize
+    ensures { result ≡ x }
 {
-    if flow == 0 {
-        return 0;
-    }
+    x as usize
+}
+
+// One of a flow's numbers, and 0 where the list has no such flow.
+fn number_of(list: &[u16], flow: usize, which: usize) -> usize
+    requires { which < per_flow }
+    ensures { result ≡ get_or list.now (per_flow * (flow - 1) + which) 0 }
+{
     if list.len() < flow {
         return 0;
     }
-    let at = PER_FLOW * (flow - 1) + place;
-    if at < list.len() {
-        list[at] as usize
-    } else {
-        0
+    let mut at = which;
+    if 0 < flow {
+        at = PER_FLOW * (flow - 1) + which;
     }
+    if at < list.len() { wide(list[at]) } else { 0 }
 }
 
 pub fn input_of(list: &[u16], flow: usize) -> usize
@@ -116,9 +119,11 @@ pub fn first_out_of_range(frame: usize, ports: usize, list: &[u16]) -> usize
 pub fn list_answer(frame: usize, ports: usize, list: &[u16]) -> Answer
     ensures { result ≡ list_answer frame ports list.now }
 {
-    let sized = answers::size_answer(frame, ports);
-    if sized.number != DONE {
-        return sized;
+    if answers::outside(1, MAX_FRAME, frame) {
+        return answers::refusal(FRAME_OUT_OF_RANGE);
+    }
+    if answers::outside(1, MAX_PORTS, ports) {
+        return answers::refusal(PORTS_OUT_OF_RANGE);
     }
     if misshapen(list) {
         return answers::refusal(LIST_MISSHAPEN);
@@ -127,7 +132,7 @@ pub fn list_answer(frame: usize, ports: usize, list: &[u16]) -> Answer
     if flow <= flow_count(list) {
         return answers::naming(FLOW_OUT_OF_RANGE, flow);
     }
-    answers::done()
+    answers::refusal(DONE)
 }
 
 // A flow's cells as they count at a port, taken as an input or as an output.

@@ -52,6 +52,5 @@ module _ (r : Running) (T W : List ℕ) (sentLength : ℕ) {a : Answer} (e : a �
     none_refused l =
         e
         ∙ first_none sizes (done_with (pos 0)) (sizes_kept z)
-        ∙ lowest_passed 0 r.ports (above_counts r T (length W)) j found
-        (answer ENTRY_ABOVE_COUNTS (pos (place_now r (lowest 0 r.ports (above_counts r T (length W)))))) (done_with (pos 0)) (omega arith)
+        ∙ lowest_passed 0 r.ports (above_counts r T (length W)) j found (answer ENTRY_ABOVE_COUNTS (pos (place_now r (lowest 0 r.ports (above_counts r T (length W)))))) (done_with (pos 0)) (omega arith)
         ∙ sym (goes_on sizes entries (done_with (pos 0)) a e tt z)

@@ -17,7 +17,7 @@ use Rattle.answers.proofs.Lowest.{somewhere_false}
 use Rattle.answers.proofs.Ranges.{inside, either_false}
 use Rattle.forwarding.specs.declared.Running.{Running}
 use Rattle.forwarding.specs.Forwarding.{offer_rules, slot_size_rules, slot_entry_rules, slot_rules, offer_answer, slot_answer, waiting_of, entries_now, above_counts}
-use Rattle.forwarding.specs.Calls.{State, Call, answer_of, carried_out, step}
+use Rattle.forwarding.specs.Histories.{State, Call, answer_of, carried_out, step}
 use Rattle.forwarding.specs.AboveCounts.{SlotAsked, AllCounted}
 
 pub record OfferDone (W : List ℕ) (k n : ℕ) : Type 0 where

@@ -1,5 +1,14 @@
 pub mod Done
 pub mod AboveCounts
 pub mod Outcomes
-pub mod MoreServed
-pub mod EntryNamed
+pub mod Serving
+pub mod SentBuffer
+pub mod Cells
+pub mod Rotation
+pub mod Keeping
+pub mod Count
+pub mod Shares
+pub mod Isolation
+pub mod NeverAbove
+pub mod OneOutcome
+pub mod WorkedRun

@@ -9,7 +9,7 @@ use Rattle.answers.specs.Buffers.{written}
 use Rattle.answers.specs.declared.Answer.{Answer}
 use Rattle.forwarding.specs.declared.Running.{Running}
 use Rattle.forwarding.specs.Forwarding.{entries_now, fresh_start_answer, offer_answer, slot_answer, added, served, output_byte}
-use Rattle.forwarding.specs.Calls.{State, Call, state_of, running_at, a_fresh_start, an_offer, a_slot, answer_of, advanced, step, outcome_of, sent_after}
+use Rattle.forwarding.specs.Histories.{State, Call, state_of, running_at, a_fresh_start, an_offer, a_slot, answer_of, advanced, step, outcome_of, sent_after}
 use Rattle.forwarding.specs.Promises.{outcome, FreshStarted, Offered, SlotServed}
 use Rattle.forwarding.proofs.Done.{step-done, step_refused}
 
@@ -49,8 +49,7 @@ module _ (r : Running) (T W S : List ℕ) {a : Answer} (e : a ≡ slot_answer r 
         sent = rw (ne_eqb (slot_answer r T W (length S)).number DONE (λ z. d (ap (λ (x : Answer). x.number) e ∙ z)));
       }
 
-  pub slot_served : {r' : Running} {W' S' : List ℕ} → a.number ≡ DONE → r' ≡ advanced r
-      → W' ≡ served r.ports f W → S' ≡ written r.ports (output_byte f W) S
+  pub slot_served : {r' : Running} {W' S' : List ℕ} → a.number ≡ DONE → r' ≡ advanced r → W' ≡ served r.ports f W → S' ≡ written r.ports (output_byte f W) S
       → SlotServed r T W S (outcome a r') W' S'
   unfolding sent_after
   slot_served z next w s =

@@ -1,14 +1,17 @@
--- Refusal 28: which entry it tells of, and that a slot lent an accepted table, with K waiting counts, answers as if there were no 28.
-use Rattle.std.specs.Prelude.{ℕ, ◌≤◌, ◌<◌, ◌≡◌, ◌↔◌, List, length, pos}
+-- Refusal 28: which entry it tells of, and that a table which is accepted, with K waiting counts, never meets it.
+use Rattle.std.specs.Prelude.{ℕ, ◌≤◌, ◌<◌, ◌≡◌, ◌↔◌, List, length, pos, eqb}
 use Rattle.answers.specs.Numbers.{ENTRY_ABOVE_COUNTS}
 use Rattle.answers.specs.Limits.{max_flows}
 use Rattle.answers.specs.Lowest.{IsLowest}
+use Rattle.answers.specs.Sums.{one}
 use Rattle.answers.specs.Answers.{answer}
 use Rattle.flows.specs.Flows.{flow_count}
 use Rattle.tables.specs.Accepted.{Accepted}
 use Rattle.tables.specs.Check.{Holds}
 use Rattle.forwarding.specs.declared.Running.{Running}
 use Rattle.forwarding.specs.Forwarding.{entries_now, place_now, slot_size_answer, slot_answer}
+use Rattle.forwarding.specs.Histories.{State, Call, answer_of, total}
+use Rattle.forwarding.specs.Shares.{Window}
 
 -- what a slot asks before it looks at an entry: 1, 2, 7, 12 and 11 are not due
 pub record SlotAsked (r : Running) (T W : List ℕ) (sentLength : ℕ) : Type 0 where
@@ -39,3 +42,13 @@ SizesDecide =
     (L T W : List ℕ) (r : Running) (sentLength : ℕ)
     → Accepted r.frame r.ports L T → length W ≡ flow_count L
     → slot_answer r T W sentLength ≡ slot_size_answer r T W sentLength
+
+-- a call that answers with that number
+abbrev pub answered_with : ℕ → State → Call → ℕ
+answered_with n st c = one (eqb (answer_of st c).number n)
+
+-- no call of a window is refused with 28, however many slots it has and whatever stands among them
+abbrev pub NeverInWindow : Type 0
+NeverInWindow =
+    (L T : List ℕ) (st : State) (calls : List Call) (slots : ℕ)
+    → Window L T st calls slots → total (answered_with ENTRY_ABOVE_COUNTS) st calls ≡ 0

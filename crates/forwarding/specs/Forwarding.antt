@@ -1,10 +1,9 @@
 -- What one call answers, and how a slot serves its outputs. W is the waiting counts, flow 1's first.
 use Rattle.std.specs.Prelude.{ℕ, zero, suc, ◌+◌, ◌-◌, ◌*◌, Bool, not, cond, ◌&&◌, ◌||◌, List, [], ◌∷◌, ◌++◌, length, get_or, set, pos, eqb, ltb}
 use Rattle.answers.specs.declared.Answer.{Answer}
-use Rattle.answers.specs.Numbers.{TABLE_TOO_SHORT, POSITION_PAST_FRAME, COUNTS_OR_SENT_MISSIZED, FLOW_UNKNOWN, WAITING_FULL, ENTRY_ABOVE_COUNTS}
-use Rattle.answers.specs.Limits.{max_flows, max_waiting, outside}
+use Rattle.answers.specs.Numbers.{FRAME_OUT_OF_RANGE, PORTS_OUT_OF_RANGE, TABLE_TOO_SHORT, POSITION_PAST_FRAME, COUNTS_OR_SENT_MISSIZED, FLOW_UNKNOWN, WAITING_FULL, ENTRY_ABOVE_COUNTS}
+use Rattle.answers.specs.Limits.{max_frame, max_ports, max_flows, max_waiting, outside}
 use Rattle.answers.specs.Answers.{Rule, refusal, done_with, ◌when◌, telling_of_lowest, first}
-use Rattle.answers.specs.Sizes.{size_rules}
 use Rattle.tables.specs.Accepted.{entry}
 use Rattle.forwarding.specs.declared.Running.{Running}
 
@@ -18,7 +17,11 @@ unknown W k = outside 1 (length W) k
 
 -- the refusals of a fresh start, in their order: 1, 2, 12
 abbrev pub fresh_start_rules : ℕ → ℕ → List ℕ → List Rule
-fresh_start_rules M N W = size_rules M N ++ (refusal COUNTS_OR_SENT_MISSIZED when ltb max_flows (length W)) ∷ []
+fresh_start_rules M N W =
+    (refusal FRAME_OUT_OF_RANGE when outside 1 max_frame M)
+    ∷ (refusal PORTS_OUT_OF_RANGE when outside 1 max_ports N)
+    ∷ (refusal COUNTS_OR_SENT_MISSIZED when ltb max_flows (length W))
+    ∷ []
 
 -- what a fresh start at frame M and ports N answers
 unfoldable pub fresh_start_answer : ℕ → ℕ → List ℕ → Answer
@@ -48,17 +51,15 @@ place_now r j = j * r.frame + r.position
 abbrev pub above_counts : Running → List ℕ → ℕ → ℕ → Bool
 above_counts r T counts j = ltb counts (entries_now r T j)
 
--- the refusals of what a slot is lent and of its position, in their order: 7, 12, 11; a table, counts and a sent buffer are judged by their lengths
-abbrev pub slot_lent_rules : Running → List ℕ → List ℕ → ℕ → List Rule
-slot_lent_rules r T W sentLength =
-    (refusal TABLE_TOO_SHORT when ltb (length T) (r.ports * r.frame))
+-- the refusals of a slot before it looks at an entry, in their order: 1, 2, 7, 12, 11; a table, counts and a sent buffer are judged by their lengths
+abbrev pub slot_size_rules : Running → List ℕ → List ℕ → ℕ → List Rule
+slot_size_rules r T W sentLength =
+    (refusal FRAME_OUT_OF_RANGE when outside 1 max_frame r.frame)
+    ∷ (refusal PORTS_OUT_OF_RANGE when outside 1 max_ports r.ports)
+    ∷ (refusal TABLE_TOO_SHORT when ltb (length T) (r.ports * r.frame))
     ∷ (refusal COUNTS_OR_SENT_MISSIZED when (ltb max_flows (length W) || ltb sentLength r.ports))
     ∷ (refusal POSITION_PAST_FRAME when not (ltb r.position r.frame))
     ∷ []
-
--- the refusals of a slot before it looks at an entry, in their order: 1, 2, 7, 12, 11
-abbrev pub slot_size_rules : Running → List ℕ → List ℕ → ℕ → List Rule
-slot_size_rules r T W sentLength = size_rules r.frame r.ports ++ slot_lent_rules r T W sentLength
 
 -- the first of them, or done
 unfoldable pub slot_size_answer : Running → List ℕ → List ℕ → ℕ → Answer

@@ -1,4 +1,8 @@
 pub mod Forwarding
-pub mod Calls
+pub mod Histories
+pub mod SentBuffer
 pub mod Promises
+pub mod Shares
+pub mod Isolation
+pub mod Count
 pub mod AboveCounts

@@ -5,7 +5,7 @@ use Rattle.answers.specs.declared.Answer.{Answer}
 use Rattle.forwarding.specs.declared.Running.{Running}
 use Rattle.forwarding.specs.declared.Outcome.{Outcome}
 use Rattle.forwarding.specs.Forwarding.{offer_answer}
-use Rattle.forwarding.specs.Calls.{state_of, a_fresh_start, an_offer, a_slot, step, outcome_of, sent_after}
+use Rattle.forwarding.specs.Histories.{state_of, a_fresh_start, an_offer, a_slot, step, outcome_of, sent_after}
 
 -- an answer, and the record after the call
 abbrev pub outcome : Answer → Running → Outcome
@@ -26,3 +26,19 @@ pub record SlotServed (r : Running) (T W S : List ℕ) (o : Outcome) (W' S' : Li
   pub handed_back : o ≡ outcome_of (state_of r W) (a_slot T (length S))
   pub counts : W' ≡ (step (state_of r W) (a_slot T (length S))).waiting
   pub sent : S' ≡ sent_after (state_of r W) T S
+
+-- no call has two different outcomes under its promise
+abbrev pub OneFreshStart : Type 0
+OneFreshStart =
+    (r : Running) (M N : ℕ) (W : List ℕ) (o p : Outcome) (X Y : List ℕ)
+    → FreshStarted r M N W o X → FreshStarted r M N W p Y → (o ≡ p) × (X ≡ Y)
+
+abbrev pub OneOffer : Type 0
+OneOffer =
+    (W : List ℕ) (k n : ℕ) (a b : Answer) (X Y : List ℕ)
+    → Offered W k n a X → Offered W k n b Y → (a ≡ b) × (X ≡ Y)
+
+abbrev pub OneSlot : Type 0
+OneSlot =
+    (r : Running) (T W S : List ℕ) (o p : Outcome) (X Y A B : List ℕ)
+    → SlotServed r T W S o X A → SlotServed r T W S p Y B → (o ≡ p) × ((X ≡ Y) × (A ≡ B))

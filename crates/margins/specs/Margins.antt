@@ -1,12 +1,11 @@
 -- Delay bound and margin, link room, period fit, and the cells of a message.
-use Rattle.std.specs.Prelude.{ℕ, ◌+◌, ◌-◌, ◌*◌, ◌/◌, Bool, ◌||◌, List, [], ◌∷◌, ◌++◌, ℤ, pos, negsuc, ◌-ℤ◌, length, get_or, eqb, leb, ltb}
+use Rattle.std.specs.Prelude.{ℕ, ◌+◌, ◌-◌, ◌*◌, ◌/◌, Bool, ◌||◌, List, [], ◌∷◌, ℤ, pos, negsuc, ◌-ℤ◌, length, get_or, eqb, leb, ltb}
 use Rattle.answers.specs.declared.Answer.{Answer}
-use Rattle.answers.specs.Numbers.{LINKS_OUT_OF_RANGE, DEADLINE_OUT_OF_RANGE, PERIOD_OUT_OF_RANGE, PERIOD_DOES_NOT_FIT, BITS_OUT_OF_RANGE, DELAY_OUT_OF_RANGE}
-use Rattle.answers.specs.Limits.{max_links, max_delay, max_deadline, max_period, max_bits, outside}
+use Rattle.answers.specs.Numbers.{FRAME_OUT_OF_RANGE, LINKS_OUT_OF_RANGE, DEADLINE_OUT_OF_RANGE, PERIOD_OUT_OF_RANGE, PERIOD_DOES_NOT_FIT, BITS_OUT_OF_RANGE, DELAY_OUT_OF_RANGE}
+use Rattle.answers.specs.Limits.{max_frame, max_links, max_delay, max_deadline, max_period, max_bits, outside}
 use Rattle.answers.specs.Lowest.{lowest}
 use Rattle.answers.specs.Sums.{sum}
 use Rattle.answers.specs.Answers.{Rule, refusal, done_with, ◌when◌, naming_lowest, first}
-use Rattle.answers.specs.Sizes.{frame_rules}
 
 -- the delay of a link, in slots, by its place in the list of delays, from 0
 abbrev pub delay_of : List ℕ → ℕ → ℕ
@@ -65,45 +64,36 @@ delay_out_of_range d = outside 1 max_delay d
 abbrev pub link_out_of_range : List ℕ → ℕ → Bool
 link_out_of_range D link = delay_out_of_range (delay_of D link)
 
--- a path over links with these delays, and its deadline: order 15, 16, 25
-abbrev pub path_rules : List ℕ → ℕ → List Rule
-path_rules D H =
-    (refusal LINKS_OUT_OF_RANGE when outside 0 max_links (length D))
+-- margin: order 1, 15, 16, 25
+abbrev pub margin_rules : ℕ → List ℕ → ℕ → List Rule
+margin_rules M D H =
+    (refusal FRAME_OUT_OF_RANGE when outside 1 max_frame M)
+    ∷ (refusal LINKS_OUT_OF_RANGE when outside 0 max_links (length D))
     ∷ (refusal DEADLINE_OUT_OF_RANGE when outside 0 max_deadline H)
     ∷ naming_lowest DELAY_OUT_OF_RANGE 0 (length D) (link_out_of_range D)
     ∷ []
 
--- margin: order 1, 15, 16, 25
-abbrev pub margin_rules : ℕ → List ℕ → ℕ → List Rule
-margin_rules M D H = frame_rules M ++ path_rules D H
-
 unfoldable pub margin_answer : ℕ → List ℕ → ℕ → Answer
 margin_answer M D H = first (margin_rules M D H) (done_with (margin_of M D H))
 
--- one common delay, and a deadline: order 16, 25
-abbrev pub common_rules : ℕ → ℕ → List Rule
-common_rules d H =
-    (refusal DEADLINE_OUT_OF_RANGE when outside 0 max_deadline H)
-    ∷ (refusal DELAY_OUT_OF_RANGE when delay_out_of_range d)
-    ∷ []
-
 -- room: order 1, 16, 25
 abbrev pub room_rules : ℕ → ℕ → ℕ → List Rule
-room_rules M d H = frame_rules M ++ common_rules d H
+room_rules M d H =
+    (refusal FRAME_OUT_OF_RANGE when outside 1 max_frame M)
+    ∷ (refusal DEADLINE_OUT_OF_RANGE when outside 0 max_deadline H)
+    ∷ (refusal DELAY_OUT_OF_RANGE when delay_out_of_range d)
+    ∷ []
 
 unfoldable pub room_answer : ℕ → ℕ → ℕ → Answer
 room_answer M d H = first (room_rules M d H) (done_with (room_of M d H))
 
--- a period and its cells: order 17, 18
-abbrev pub period_rules : ℕ → ℕ → ℕ → List Rule
-period_rules M P C =
-    (refusal PERIOD_OUT_OF_RANGE when outside M max_period P)
-    ∷ (refusal PERIOD_DOES_NOT_FIT when (eqb C 0 || ltb M (fit_of M P C)))
-    ∷ []
-
 -- fit: order 1, 17, 18
 abbrev pub fit_rules : ℕ → ℕ → ℕ → List Rule
-fit_rules M P C = frame_rules M ++ period_rules M P C
+fit_rules M P C =
+    (refusal FRAME_OUT_OF_RANGE when outside 1 max_frame M)
+    ∷ (refusal PERIOD_OUT_OF_RANGE when outside M max_period P)
+    ∷ (refusal PERIOD_DOES_NOT_FIT when (eqb C 0 || ltb M (fit_of M P C)))
+    ∷ []
 
 unfoldable pub fit_answer : ℕ → ℕ → ℕ → Answer
 fit_answer M P C = first (fit_rules M P C) (done_with (pos (fit_of M P C)))

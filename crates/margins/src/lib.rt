@@ -2,13 +2,12 @@
 ghost use Rattle.std.specs.Prelude.{◌≡◌, ◌<◌, ◌≤◌, pos, ◌-ℤ◌, length};
 ghost use Rattle.answers.specs.Limits.{max_frame, max_links, max_deadline};
 ghost use Rattle.answers.specs.Lowest.{lowest};
-ghost use Rattle.margins.specs.Margins.{delay_sum, bound, delay_out_of_range, link_out_of_range, floor_div, least_times};
-ghost use Rattle.margins.specs.Margins.{margin_answer, room_answer, fit_answer, cells_answer};
+ghost use Rattle.margins.specs.Margins.{delay_sum, bound, delay_out_of_range, link_out_of_range, floor_div, least_times, margin_answer, room_answer, fit_answer, cells_answer};
 
 use answers::{
-    Answer, BITS_OUT_OF_RANGE, DEADLINE_OUT_OF_RANGE, DELAY_OUT_OF_RANGE, DONE, LINKS_OUT_OF_RANGE,
-    MAX_BITS, MAX_DEADLINE, MAX_DELAY, MAX_LINKS, MAX_PERIOD, PERIOD_DOES_NOT_FIT,
-    PERIOD_OUT_OF_RANGE,
+    Answer, BITS_OUT_OF_RANGE, DEADLINE_OUT_OF_RANGE, DELAY_OUT_OF_RANGE, DONE, FRAME_OUT_OF_RANGE,
+    LINKS_OUT_OF_RANGE, MAX_BITS, MAX_DEADLINE, MAX_DELAY, MAX_FRAME, MAX_LINKS, MAX_PERIOD,
+    PERIOD_DOES_NOT_FIT, PERIOD_OUT_OF_RANGE,
 };
 
 // The bits of a cell.
@@ -72,8 +71,7 @@ fn first_out_of_range(delays: &[u16]) -> usize
     link
 }
 
-// The delays of all links together. That they are 16-bit numbers and not too many is enough for the sum not to wrap: it need not be
-// known that they are in range.
+// The delays of all links together. That they are 16-bit numbers and not too many is enough for the sum not to wrap: it need not be known that they are in range.
 fn delay_sum(delays: &[u16]) -> usize
     requires { length delays.now ≤ max_links }
     ensures { result ≡ delay_sum delays.now }
@@ -99,9 +97,8 @@ fn delay_bound(frame: usize, delays: &[u16]) -> usize
 pub fn margin(frame: usize, delays: &[u16], deadline: usize) -> Answer
     ensures { result ≡ margin_answer frame delays.now deadline }
 {
-    let framed = answers::frame_answer(frame);
-    if framed.number != DONE {
-        return framed;
+    if answers::outside(1, MAX_FRAME, frame) {
+        return answers::refusal(FRAME_OUT_OF_RANGE);
     }
     if answers::outside(0, MAX_LINKS, delays.len()) {
         return answers::refusal(LINKS_OUT_OF_RANGE);
@@ -120,9 +117,8 @@ pub fn margin(frame: usize, delays: &[u16], deadline: usize) -> Answer
 pub fn room(frame: usize, delay: usize, deadline: usize) -> Answer
     ensures { result ≡ room_answer frame delay deadline }
 {
-    let framed = answers::frame_answer(frame);
-    if framed.number != DONE {
-        return framed;
+    if answers::outside(1, MAX_FRAME, frame) {
+        return answers::refusal(FRAME_OUT_OF_RANGE);
     }
     if answers::outside(0, MAX_DEADLINE, deadline) {
         return answers::refusal(DEADLINE_OUT_OF_RANGE);
@@ -137,9 +133,8 @@ pub fn room(frame: usize, delay: usize, deadline: usize) -> Answer
 pub fn fit(frame: usize, period: usize, cells: usize) -> Answer
     ensures { result ≡ fit_answer frame period cells }
 {
-    let framed = answers::frame_answer(frame);
-    if framed.number != DONE {
-        return framed;
+    if answers::outside(1, MAX_FRAME, frame) {
+        return answers::refusal(FRAME_OUT_OF_RANGE);
     }
     if answers::outside(frame, MAX_PERIOD, period) {
         return answers::refusal(PERIOD_OUT_OF_RANGE);

@@ -1,63 +1,54 @@
 // The planner: a plan text on standard input, its answer and its table on standard output.
-// All that it writes there is one proved function of what it reads; here it is only read and written.
-ghost use Rattle.std.specs.Prelude.{◌≤◌, length};
-ghost use Rattle.io.specs.Counts.{IsPrefixLen};
+mod respond;
 
-use answers::MAX_TEXT;
-use libc::{STDERR_FILENO, STDIN_FILENO, STDOUT_FILENO};
-use planner::printing::OUTPUT_ROOM;
+ghost use Rattle.std.specs.Prelude.{◌≤◌};
+ghost use Rattle.answers.specs.Limits.{max_frame, max_ports};
 
-// What reading brought: so many bytes at the front of the buffer, and whether a read failed.
-#[derive(Drop)]
-struct Got {
-    count: usize,
-    failed: bool,
+use answers::{DONE, MAX_FRAME, MAX_PORTS, MAX_TEXT};
+use libc::{STDIN_FILENO, STDOUT_FILENO};
+
+// Room for the longest line of an answer: the key, two numbers of 32 bits, a sign, a comma and the line's end.
+const ANSWER_ROOM: usize = 32;
+
+// Room for the longest line of a row: the key, three digits and a comma for each entry, and the line's end.
+const ROW_ROOM: usize = 4 * MAX_FRAME + 5;
+
+// Prints the line of an answer.
+fn print_answer(number: u32, detail: i32) {
+    let mut line = [0u8; ANSWER_ROOM];
+    let n = plan_text::lines::put_answer(&mut line, 0, number, detail);
+    io::write_all(STDOUT_FILENO, &line[..n]);
 }
 
-// Reads once. At the end of the input, or where the read fails, there are no bytes.
-fn read_some(space: &mut [u8]) -> Got
-    ensures { result.count ≤ length space.new }
+// Prints the line of an output's row.
+fn print_row(frame: usize, ports: usize, table: &[u8], output: usize)
+    requires { frame ≤ max_frame }
 {
-    let got = libc::read(STDIN_FILENO, space);
-    Got {
-        count: io::count(got, space),
-        failed: got < 0,
-    }
+    let row = tables::row::row(frame, ports, table, output);
+    let mut line = [0u8; ROW_ROOM];
+    let n = plan_text::lines::put_row(&mut line, 0, row);
+    io::write_all(STDOUT_FILENO, &line[..n]);
 }
 
-// Reads until the buffer is full, the input ends or a read fails.
-fn read_text(text: &mut [u8]) -> Got
-    ensures { IsPrefixLen result.count text.new }
+// Prints a line for each output.
+fn print_table(frame: usize, ports: usize, table: &[u8])
+    requires { (frame ≤ max_frame) × (ports ≤ max_ports) }
 {
-    let mut count = 0;
-    while count < text.len() {
-        let more = read_some(&mut text[count..]);
-        if more.count == 0 {
-            return Got {
-                count,
-                failed: more.failed,
-            };
-        }
-        count += more.count;
-    }
-    Got {
-        count,
-        failed: false,
+    let mut output = 1;
+    while output <= ports {
+        print_row(frame, ports, table, output);
+        output += 1;
     }
 }
 
 fn main() {
-    // one byte more than the limit, so that a text over it is seen to be
     let mut text = [0u8; MAX_TEXT + 1];
-    let got = read_text(&mut text);
-    if got.failed {
-        io::write_all(STDERR_FILENO, b"plan: standard input cannot be read\n");
-        return;
-    }
-    let n = got.count;
-    let mut out = [0u8; OUTPUT_ROOM];
-    let end = planner::printing::print(&text[..n], &mut out);
-    if !io::write_all(STDOUT_FILENO, &out[..end]) {
-        io::write_all(STDERR_FILENO, b"plan: standard output cannot be written\n");
+    let n = io::read_full(STDIN_FILENO, &mut text);
+    let mut table = [0u8; MAX_PORTS * MAX_FRAME];
+    let reply = respond::respond(&text[..n], &mut table);
+    let answer = reply.answer;
+    print_answer(answer.number, answer.detail);
+    if answer.number == DONE {
+        print_table(reply.frame, reply.ports, &table);
     }
 }

@@ -87,7 +87,7 @@ digits-length k n l low = digits_by (λ n l. (k : ℕ) → n < 10 ^ suc k → le
     more n l a rest zero b = absurd (omega arith)
     more n l a rest (suc k) b = omega (arith, length-append l ((zero_byte + n % 10) ∷ []), rest k (tenth k n b))
 
--- every digit is one of the ten bytes from that of 0
+-- every digit is a byte from 48 to 57
 abbrev pub AllDigits : List ℕ → Type 0
 AllDigits [] = Unit {0}
 AllDigits (b ∷ l) = Within zero_byte (zero_byte + 9) b × AllDigits l
@@ -144,9 +144,7 @@ digits_behind (b ∷ l) j v some low few d =
     one_more : digits v ++ b ∷ [] ≡ digits (v * 10 + (b - zero_byte))
     one_more =
         ap (λ (c : ℕ). digits v ++ c ∷ []) (omega (arith, d.0.at_least))
-        ∙ sym
-        (digits_more v (b - zero_byte) some (omega (arith, pow-le-pow_right {n = 10} (omega arith) {i = j} {j = 19} (omega arith)))
-        (omega (arith, d.0.at_most)))
+        ∙ sym (digits_more v (b - zero_byte) some (omega (arith, pow-le-pow_right {n = 10} (omega arith) {i = j} {j = 19} (omega arith))) (omega (arith, d.0.at_most)))
 
 -- one or more digits, up to 19, without a leading 0 unless they are the one digit 0, are the digits of a number
 pub digits_of : (l : List ℕ) → AllDigits l → 1 ≤ length l → length l ≤ 19 → (get_or l 0 0 ≡ zero_byte → length l ≡ 1)

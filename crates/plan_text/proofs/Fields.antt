@@ -10,9 +10,9 @@ use lib.Dec.{ltb}
 use lib.Seq.{append_snoc}
 use Rattle.answers.proofs.Ranges.{within_test}
 use Rattle.flows.specs.Flows.{per_flow, flow_count}
-use Rattle.plan_text.specs.declared.recogniser.Field.{Field}
-use Rattle.plan_text.specs.declared.recogniser.Field.TheVariants.{Frame, Ports, Input, Output, Cells}
-use Rattle.plan_text.specs.declared.recogniser.Reader.{Reader}
+use Rattle.plan_text.specs.declared.reader.Field.{Field}
+use Rattle.plan_text.specs.declared.reader.Field.TheVariants.{Frame, Ports, Input, Output, Cells}
+use Rattle.plan_text.specs.declared.reader.Reader.{Reader}
 use Rattle.plan_text.specs.Digits.{zero_byte, digits}
 use Rattle.plan_text.specs.Form.{line_feed, comma, flow_key, max_number, line, frame_key, ports_key, flow_line, flow_lines, text_of_plan, AllShort}
 use Rattle.plan_text.specs.Reading.{key_of, end_of, next_field, is_input, is_digit, may_grow, takes, ends_number, before_field, past, lived, past_all, numbers_in}
@@ -114,8 +114,7 @@ digits-run f n l =
         → n ≤ max_number → Runs (behind_key f false 0) (l ++ (zero_byte + n % 10) ∷ []) (behind_key f true n) []
     more n l a rest b =
         runs_then (rest (omega arith))
-        (digit_runs f true (n / 10) (n % 10) n (omega arith)
-        (ap not (within_test {low = 1} {high = max_number / 10} {x = n / 10} (record { at_least = omega arith; at_most = omega arith }))) (omega arith))
+        (digit_runs f true (n / 10) (n % 10) n (omega arith) (ap not (within_test {low = 1} {high = max_number / 10} {x = n / 10} (record { at_least = omega arith; at_most = omega arith }))) (omega arith))
 
 key_runs : (f : Field) → Runs (before_field f) (key_of f) (behind_key f false 0) []
 unfolding lived past_all numbers_in takes past ends_number

@@ -7,9 +7,9 @@ use native.Mathlib.Omega.{arith}
 use borrow.Author.Tests.{ltb-false}
 use lib.ListN.{length, take, drop, length-append, take-append-drop}
 use lib.Seq.{take_all, length-take-le, take_at}
-use Rattle.plan_text.specs.declared.recogniser.Field.{Field}
-use Rattle.plan_text.specs.declared.recogniser.Field.TheVariants.{Frame, Ports, Input, Output, Cells}
-use Rattle.plan_text.specs.declared.recogniser.Reader.{Reader}
+use Rattle.plan_text.specs.declared.reader.Field.{Field}
+use Rattle.plan_text.specs.declared.reader.Field.TheVariants.{Frame, Ports, Input, Output, Cells}
+use Rattle.plan_text.specs.declared.reader.Reader.{Reader}
 use Rattle.plan_text.specs.Digits.{digits}
 use Rattle.plan_text.specs.Form.{AllShort, OfForm, Begins, LongestBeginning}
 use Rattle.plan_text.specs.Reading.{key_of, end_of, next_field, in_key, is_input, start, lived, past_all, numbers_in}
@@ -30,8 +30,7 @@ rest_of r s = go r.started refl
     past_key t true e = absurd (true≢false (sym t ∙ s.key_first e))
     past_key t false e = ltb-false _ _ e
 
-    go : (t : Bool) → r.started ≡ t
-        → (rest : List ℕ) × (take r.matched key ++ cond t (digits r.value) [] ++ rest ≡ key ++ (digits r.value ++ end_of r.field ∷ []))
+    go : (t : Bool) → r.started ≡ t → (rest : List ℕ) × (take r.matched key ++ cond t (digits r.value) [] ++ rest ≡ key ++ (digits r.value ++ end_of r.field ∷ []))
     go true t = (
       end_of r.field ∷ [],
       append_assoc (take r.matched key) (digits r.value) (end_of r.field ∷ [])

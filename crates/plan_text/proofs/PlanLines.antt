@@ -6,8 +6,7 @@ use native.Mathlib.Omega.{arith}
 use lib.ListN.{length, get_or, take, drop, length-append, drop_of_length-le}
 use lib.Seq.{drop-cons}
 use native.Mathlib.Nat.{add-zero}
-use native.Mathlib.Numerals.{add-one}
-use Rattle.flows.specs.Flows.{per_flow, flow_count, number_of, input_of, output_of, cells_of}
+use Rattle.flows.specs.Flows.{per_flow, flow_count, input_of, output_of, cells_of}
 use Rattle.plan_text.specs.Digits.{digits}
 use Rattle.plan_text.specs.Form.{comma, line_feed, frame_key, ports_key, flow_key, line, flow_line, flow_lines, text_of_plan}
 use Rattle.plan_text.specs.Plans.{Put}
@@ -53,18 +52,21 @@ flows_from L p t u =
     (drop-cons L (suc (per_flow * p)) 0 (omega arith)
     ∙ ap (λ (r : List ℕ). get_or L (suc (per_flow * p)) 0 ∷ r) (drop-cons L (suc (suc (per_flow * p))) 0 (omega arith))))
     ∙ ap (λ (k : ℕ). flow_line (get_or L (per_flow * p) 0) (get_or L (suc (per_flow * p)) 0) (get_or L (suc (suc (per_flow * p))) 0) ++ flow_lines (drop k L)) last
-    ∙ ap (λ (n : ℕ). flow_line n (get_or L (suc (per_flow * p)) 0) (get_or L (suc (suc (per_flow * p))) 0) ++ rest) (number 0 (per_flow * p) (omega arith))
-    ∙ ap (λ (n : ℕ). flow_line (input_of L (p + 1)) n (get_or L (suc (suc (per_flow * p))) 0) ++ rest) (number 1 (suc (per_flow * p)) (omega arith))
-    ∙ ap (λ (n : ℕ). flow_line (input_of L (p + 1)) (output_of L (p + 1)) n ++ rest) (number 2 (suc (suc (per_flow * p))) (omega arith))
+    ∙ ap (λ (k : ℕ). flow_line (get_or L k 0) (get_or L (suc (per_flow * p)) 0) (get_or L (suc (suc (per_flow * p))) 0) ++ flow_lines (drop (per_flow * (p + 1)) L)) first
+    ∙ ap (λ (k : ℕ). flow_line (input_of L (p + 1)) (get_or L k 0) (get_or L (suc (suc (per_flow * p))) 0) ++ flow_lines (drop (per_flow * (p + 1)) L)) second
+    ∙ ap (λ (k : ℕ). flow_line (input_of L (p + 1)) (output_of L (p + 1)) (get_or L k 0) ++ flow_lines (drop (per_flow * (p + 1)) L)) third
   where
-    rest : List ℕ
-    rest = flow_lines (drop (per_flow * (p + 1)) L)
-
     last : suc (suc (suc (per_flow * p))) ≡ per_flow * (p + 1)
     last = omega arith
 
-    number : (place i : ℕ) → i ≡ per_flow * p + place → get_or L i 0 ≡ number_of L (p + 1) place
-    number place i e = ap (λ (n : ℕ). get_or L n 0) e ∙ ap (λ (k : ℕ). number_of L k place) (sym (add-one p))
+    first : per_flow * p ≡ per_flow * (p + 1 - 1)
+    first = omega arith
+
+    second : suc (per_flow * p) ≡ per_flow * (p + 1 - 1) + 1
+    second = omega arith
+
+    third : suc (suc (per_flow * p)) ≡ per_flow * (p + 1 - 1) + 2
+    third = omega arith
 
 -- the lines of the first flows were put; with those of the rest they make all lines
 pub record LinesPut (before : List ℕ) (at : ℕ) (L after : List ℕ) (next passed : ℕ) : Type 0 where
@@ -93,8 +95,7 @@ module _ {before : List ℕ} {at : ℕ} {L after : List ℕ} {next passed : ℕ}
   unfolding now
   all_lines = ap (λ (t : List ℕ). w.bytes ++ t) (sym (flows_from L passed threes u)) ∙ w.rest
 
-  pub line_room : at + length (flow_lines L) ≤ length before
-      → next + length (flow_line (input_of L (passed + 1)) (output_of L (passed + 1)) (cells_of L (passed + 1))) ≤ length after
+  pub line_room : at + length (flow_lines L) ≤ length before → next + length (flow_line (input_of L (passed + 1)) (output_of L (passed + 1)) (cells_of L (passed + 1))) ≤ length after
   unfolding now
   line_room h =
       omega (
@@ -107,8 +108,7 @@ module _ {before : List ℕ} {at : ℕ} {L after : List ℕ} {next passed : ℕ}
       )
 
   pub lines_more : (later : List ℕ) (place : ℕ) → length later ≡ length after
-      → Put after next (flow_line (input_of L (passed + 1)) (output_of L (passed + 1)) (cells_of L (passed + 1))) later place
-      → LinesPut before at L later place (passed + 1)
+      → Put after next (flow_line (input_of L (passed + 1)) (output_of L (passed + 1)) (cells_of L (passed + 1))) later place → LinesPut before at L later place (passed + 1)
   unfolding now
   lines_more later place e q =
       record {

@@ -20,8 +20,7 @@ put_one out at b u =
     }
 
 -- bytes put, and then more
-pub put_then : {before mid after : List ℕ} {at next last : ℕ} {xs ys : List ℕ}
-    → Put before at xs mid next → Put mid next ys after last → Put before at (xs ++ ys) after last
+pub put_then : {before mid after : List ℕ} {at next last : ℕ} {xs ys : List ℕ} → Put before at xs mid next → Put mid next ys after last → Put before at (xs ++ ys) after last
 put_then {before} {mid} {after} {at} {next} {last} {xs} {ys} p q =
     record {
       next_is = omega (arith, p.next_is, q.next_is, length-append xs ys);
@@ -52,8 +51,7 @@ begun_none before at bytes =
       beyond = refl;
     }
 
-pub begun_more : {before : List ℕ} {at : ℕ} {bytes after : List ℕ} {i : ℕ} → Begun before at bytes after i → i < length bytes
-    → at + length bytes ≤ length before
+pub begun_more : {before : List ℕ} {at : ℕ} {bytes after : List ℕ} {i : ℕ} → Begun before at bytes after i → i < length bytes → at + length bytes ≤ length before
     → Begun before at bytes (set after (at + i) (get_or bytes i 0)) (i + 1)
 begun_more {before} {at} {bytes} {after} {i} g u room =
     record {
@@ -82,8 +80,7 @@ begun_more {before} {at} {bytes} {after} {i} g u room =
     moved : at + (i + 1) ≡ suc (at + i)
     moved = omega arith
 
-pub begun_all : {before : List ℕ} {at : ℕ} {bytes after : List ℕ} {i : ℕ} → Begun before at bytes after i → length bytes ≤ i
-    → Put before at bytes after (at + i)
+pub begun_all : {before : List ℕ} {at : ℕ} {bytes after : List ℕ} {i : ℕ} → Begun before at bytes after i → length bytes ≤ i → Put before at bytes after (at + i)
 begun_all {before} {at} {bytes} {after} {i} g u =
     record {
       next_is = ap (λ (k : ℕ). at + k) whole;
@@ -95,20 +92,20 @@ begun_all {before} {at} {bytes} {after} {i} g u =
     whole = omega (arith, g.within)
 
 -- the digits of a number, the last one apart
-pub one_digit : (n : ℕ) → n < 10 → (zero_byte + n % 10) ∷ [] ≡ digits n
-one_digit n u = ap (λ (k : ℕ). (zero_byte + k) ∷ []) small ∙ sym (digits_small n u)
+pub one_digit : (n : ℕ) → n < 10 → (48 + n % 10) ∷ [] ≡ digits n
+one_digit n u = ap (λ (k : ℕ). (48 + k) ∷ []) small ∙ sym (digits_small n u)
   where
     small : n % 10 ≡ n
     small = omega arith
 
-pub more_digits : (n : ℕ) → 10 ≤ n → n < 2 ^ 64 → digits (n / 10) ++ (zero_byte + n % 10) ∷ [] ≡ digits n
+pub more_digits : (n : ℕ) → 10 ≤ n → n < 2 ^ 64 → digits (n / 10) ++ (48 + n % 10) ∷ [] ≡ digits n
 more_digits n l f = sym (digits_more (n / 10) (n % 10) (omega arith) (omega arith) (omega arith)) ∙ ap digits whole
   where
     whole : n / 10 * 10 + n % 10 ≡ n
     whole = omega arith
 
 pub digits_longer : (n : ℕ) → 10 ≤ n → n < 2 ^ 64 → length (digits n) ≡ length (digits (n / 10)) + 1
-digits_longer n l f = ap length (sym (more_digits n l f)) ∙ length-append (digits (n / 10)) ((zero_byte + n % 10) ∷ [])
+digits_longer n l f = ap length (sym (more_digits n l f)) ∙ length-append (digits (n / 10)) ((48 + n % 10) ∷ [])
 
 -- bytes put at the very front lie over the buffer
 pub put_over : {before after : List ℕ} {next : ℕ} {bytes : List ℕ} → Put before 0 bytes after next → after ≡ over bytes before

@@ -18,8 +18,7 @@ use Rattle.plan_text.specs.declared.reading.HowFar.{HowFar}
 use Rattle.plan_text.specs.Reading.{start, lived, past_all, numbers_in, may_end, is_of_form, frame_in, ports_in, list_in}
 use Rattle.plan_text.proofs.Running.{lived_most}
 use Rattle.plan_text.proofs.Recognised.{two_numbers}
-use Rattle.plan_text.specs.Plans.{plan_of, plan_if_done, over_if_done, take_rules, take_answer, taken_plan, taken_into}
-use Rattle.plan_text.specs.Plans.{read_answer, read_plan, read_into, max_word, in_words, Scanned}
+use Rattle.plan_text.specs.Plans.{plan_of, plan_if_done, over_if_done, take_rules, take_answer, taken_plan, taken_into, read_answer, read_plan, read_into, max_word, in_words, Scanned}
 
 module _ (text : List ℕ) where
   -- the answer: over its limit, else not of the form, else as its numbers are taken over
@@ -30,16 +29,16 @@ module _ (text : List ℕ) where
   unfolding read_answer take_answer formed
   read_is room = refl
 
-  plan_is : (room : ℕ) (x : Answer) → x ≡ read_answer text room → plan_if_done x (frame_in text) (ports_in text) (flow_count (list_in text)) ≡ read_plan text room
+  plan_is : (room : ℕ) (x : Answer) → x ≡ read_answer text room → plan_if_done x (frame_in text) (ports_in text) ≡ read_plan text room
   unfolding read_plan
-  plan_is room x e = ap (λ (a : Answer). plan_if_done a (frame_in text) (ports_in text) (flow_count (list_in text))) e
+  plan_is room x e = ap (λ (a : Answer). plan_if_done a (frame_in text) (ports_in text)) e
 
   buffer_is : (buffer : List ℕ) (x : Answer) → x ≡ read_answer text (length buffer) → over_if_done x (list_in text) buffer ≡ read_into text buffer
   unfolding read_into
   buffer_is buffer x e = ap (λ (a : Answer). over_if_done a (list_in text) buffer) e
 
   pub too_long : max_text < length text → (buffer : List ℕ)
-      → (plan_of (refusal TEXT_TOO_LONG) 0 0 0 ≡ read_plan text (length buffer)) × (buffer ≡ read_into text buffer)
+      → (plan_of (refusal TEXT_TOO_LONG) 0 0 ≡ read_plan text (length buffer)) × (buffer ≡ read_into text buffer)
   too_long u buffer =
       let e = sym (read_is (length buffer) ∙ ap (λ (b : Bool). cond b (refusal TEXT_TOO_LONG) (formed (length buffer))) (lt-ltb max_text (length text) u)) in
       (plan_is (length buffer) (refusal TEXT_TOO_LONG) e, buffer_is buffer (refusal TEXT_TOO_LONG) e)
@@ -49,27 +48,23 @@ module _ (text : List ℕ) where
     within room = read_is room ∙ ap (λ (b : Bool). cond b (refusal TEXT_TOO_LONG) (formed room)) (le-ltb max_text (length text) short)
 
     pub not_formed : is_of_form text ≡ false → (at : ℕ) → at ≡ lived start text → (buffer : List ℕ)
-        → (plan_of (answer TEXT_NOT_OF_FORM (pos at)) 0 0 0 ≡ read_plan text (length buffer)) × (buffer ≡ read_into text buffer)
+        → (plan_of (answer TEXT_NOT_OF_FORM (pos at)) 0 0 ≡ read_plan text (length buffer)) × (buffer ≡ read_into text buffer)
     unfolding formed
     not_formed f at is buffer =
         let e : answer TEXT_NOT_OF_FORM (pos at) ≡ read_answer text (length buffer) =
         ap (λ (n : ℕ). answer TEXT_NOT_OF_FORM (pos n)) is
         ∙ sym (within (length buffer)
-        ∙ ap (λ (b : Bool). cond (not b) (answer TEXT_NOT_OF_FORM (pos (lived start text)))
-        (take_answer (frame_in text) (ports_in text) (list_in text) (length buffer))) f) in
+        ∙ ap (λ (b : Bool). cond (not b) (answer TEXT_NOT_OF_FORM (pos (lived start text))) (take_answer (frame_in text) (ports_in text) (list_in text) (length buffer))) f) in
         (plan_is (length buffer) (answer TEXT_NOT_OF_FORM (pos at)) e, buffer_is buffer (answer TEXT_NOT_OF_FORM (pos at)) e)
 
     module _ (f : is_of_form text ≡ true) where
       taken_is : (room : ℕ) → take_answer (frame_in text) (ports_in text) (list_in text) room ≡ read_answer text room
       unfolding formed
       taken_is room =
-          sym (within room
-          ∙ ap (λ (b : Bool). cond (not b) (answer TEXT_NOT_OF_FORM (pos (lived start text)))
-          (take_answer (frame_in text) (ports_in text) (list_in text) room)) f)
+          sym (within room ∙ ap (λ (b : Bool). cond (not b) (answer TEXT_NOT_OF_FORM (pos (lived start text))) (take_answer (frame_in text) (ports_in text) (list_in text) room)) f)
 
       pub numbers_decide : (buffer : List ℕ)
-          → (taken_plan (numbers_in start text) (length buffer) ≡ read_plan text (length buffer))
-          × (taken_into (numbers_in start text) buffer ≡ read_into text buffer)
+          → (taken_plan (numbers_in start text) (length buffer) ≡ read_plan text (length buffer)) × (taken_into (numbers_in start text) buffer ≡ read_into text buffer)
       unfolding taken_plan taken_into frame_in ports_in list_in
       numbers_decide buffer = (plan_is (length buffer) _ (taken_is (length buffer)), buffer_is buffer _ (taken_is (length buffer)))
 

@@ -8,9 +8,9 @@ use borrow.Author.Tests.{eqb-true, eq-eqb, lt-ltb}
 use lib.ListN.{length, get_or, take, drop}
 use lib.Dec.{eqb}
 use Rattle.answers.proofs.Ranges.{both_true}
-use Rattle.plan_text.specs.declared.recogniser.Field.{Field}
-use Rattle.plan_text.specs.declared.recogniser.Field.TheVariants.{Frame, Ports, Input, Output, Cells}
-use Rattle.plan_text.specs.declared.recogniser.Reader.{Reader}
+use Rattle.plan_text.specs.declared.reader.Field.{Field}
+use Rattle.plan_text.specs.declared.reader.Field.TheVariants.{Frame, Ports, Input, Output, Cells}
+use Rattle.plan_text.specs.declared.reader.Reader.{Reader}
 use Rattle.plan_text.specs.Digits.{digits}
 use Rattle.plan_text.specs.Form.{max_number, text_of_plan, AllShort, OfForm}
 use Rattle.plan_text.specs.Reading.{key_of, is_input, may_end, before_field, start, lived, past_all, numbers_in, is_of_form, frame_in, ports_in, list_in}
@@ -80,8 +80,7 @@ module _ (text : List ℕ) (o : OfForm text) where
 
 -- where a text may end nothing of a field has begun
 nothing_begun : (q : Reader) → Standing q → may_end q ≡ true → begun q ≡ []
-nothing_begun q s e =
-    ap (λ (k : Bool). take q.matched (key_of q.field) ++ cond k (digits q.value) []) fresh ∙ ap (λ (n : ℕ). take n (key_of q.field) ++ []) none
+nothing_begun q s e = ap (λ (k : Bool). take q.matched (key_of q.field) ++ cond k (digits q.value) []) fresh ∙ ap (λ (n : ℕ). take n (key_of q.field) ++ []) none
   where
     parts : (is_input q.field ≡ true) × (eqb q.matched 0 ≡ true)
     parts = both_true (is_input q.field) (eqb q.matched 0) e

@@ -4,6 +4,7 @@ use mathlib.Core.Path.{◌≡◌, refl, ◌∙◌, ap}
 use mathlib.Core.Bool.{not}
 use mathlib.Core.List.{List, [], ◌∷◌}
 use native.Mathlib.Omega.{arith}
+use native.Mathlib.Decide.{ℕ_discrete}
 use borrow.Author.Tests.{ltb-false, le-ltb, not-false}
 use lib.ListN.{length, get_or, length-append}
 use lib.IntN.{pos}
@@ -13,7 +14,7 @@ use Rattle.answers.specs.Limits.{max_text}
 use Rattle.answers.specs.Answers.{Rule, refusal, done_with, ◌when◌}
 use Rattle.answers.proofs.First.{NoneHolds, none_first, none_later, none_both, done_exactly, first_none}
 use Rattle.flows.specs.Flows.{per_flow, flow_count, IsFlow, InRange, list_rules}
-use Rattle.flows.proofs.Shape.{in_range, not_due, number_at_most}
+use Rattle.flows.proofs.Shape.{in_range, not_due}
 use Rattle.plan_text.specs.Digits.{digits}
 use Rattle.plan_text.specs.Form.{max_number, flow_lines, text_of_plan, AllShort, OfForm}
 use Rattle.plan_text.specs.Reading.{is_of_form, frame_in, ports_in, list_in}
@@ -45,8 +46,27 @@ all_short [] h = tt
 all_short (n ∷ L) h = (h 0 (omega arith), all_short L (λ p l. h (suc p) (omega arith)))
 
 good_short : (M N : ℕ) (L : List ℕ) → InRange M N L → AllShort L
-good_short M N L r =
-    all_short L (number_at_most M N L r.good_list max_number (omega (arith, r.frame_in_range.at_most)) (omega (arith, r.ports_in_range.at_most)))
+good_short M N L r = all_short L place
+  where
+    place : (p : ℕ) → p < length L → get_or L p 0 ≤ max_number
+    place p l = go (ℕ_discrete (p % 3) 0) (ℕ_discrete (p % 3) 1)
+      where
+        k : ℕ
+        k = p / 3 + 1
+
+        flow : IsFlow L k
+        flow = record { at_least = omega arith; at_most = omega (arith, r.good_list.of_threes) }
+
+        go : Dec (p % 3 ≡ 0) → Dec (p % 3 ≡ 1) → get_or L p 0 ≤ max_number
+        go (yes a) b =
+            let same : per_flow * (k - 1) ≡ p = omega arith in
+            omega (arith, ap (λ (x : ℕ). get_or L x 0) same, (r.good_list.inputs k flow).at_most, r.ports_in_range)
+        go (no a) (yes b) =
+            let same : per_flow * (k - 1) + 1 ≡ p = omega arith in
+            omega (arith, ap (λ (x : ℕ). get_or L x 0) same, (r.good_list.outputs k flow).at_most, r.ports_in_range)
+        go (no a) (no b) =
+            let same : per_flow * (k - 1) + 2 ≡ p = omega arith in
+            omega (arith, ap (λ (x : ℕ). get_or L x 0) same, (r.good_list.cells k flow).at_most, r.frame_in_range)
 
 -- what a text that is read with 0 is known to be
 pub record ReadDone (text : List ℕ) (room : ℕ) : Type 0 where
@@ -80,10 +100,7 @@ pub write_done : (M N : ℕ) (L : List ℕ) (room : ℕ) → (write_answer M N L
 unfolding write_answer
 write_done M N L room e =
     let none = (done_exactly DONE (write_rules M N L room) (done_with (pos (length (text_of_plan M N L)))) refl tt).0 e in
-    let small = (refusal BUFFER_TOO_SMALL when ltb room (length (text_of_plan M N L))) ∷ [] in (
-      in_range M N L (none_first (list_rules M N L) small none),
-      first_none (write_rules M N L room) (done_with (pos (length (text_of_plan M N L)))) none,
-    )
+    (in_range M N L (none_first (list_rules M N L) ((refusal BUFFER_TOO_SMALL when ltb room (length (text_of_plan M N L))) ∷ []) none), first_none (write_rules M N L room) (done_with (pos (length (text_of_plan M N L)))) none)
 
 module _ (M N : ℕ) (L : List ℕ) (r : InRange M N L) where
   frame_short : M ≤ max_number
@@ -119,8 +136,7 @@ module _ (M N : ℕ) (L : List ℕ) (r : InRange M N L) where
         le-ltb max_text (length text) text_fits,
         (
           ap not (form_recognised text (plan_form M N L frame_short ports_short list_short threes)),
-          rw (frame_back, ports_back, list_back)
-              (none_both (list_rules M N L) ((refusal BUFFER_TOO_SMALL when ltb room (length L)) ∷ []) (not_due M N L r) (le-ltb room (length L) l, tt)),
+          rw (frame_back, ports_back, list_back) (none_both (list_rules M N L) ((refusal BUFFER_TOO_SMALL when ltb room (length L)) ∷ []) (not_due M N L r) (le-ltb room (length L) l, tt)),
         ),
       )
       ∙ ap (λ (l : List ℕ). done_with (pos (flow_count l))) list_back
@@ -133,5 +149,4 @@ module _ (M N : ℕ) (L : List ℕ) (r : InRange M N L) where
   unfolding write_answer
   writes room l =
       first_none (write_rules M N L room) (done_with (pos (length (text_of_plan M N L))))
-      (none_both (list_rules M N L) ((refusal BUFFER_TOO_SMALL when ltb room (length (text_of_plan M N L))) ∷ []) (not_due M N L r)
-      (le-ltb room (length (text_of_plan M N L)) l, tt))
+      (none_both (list_rules M N L) ((refusal BUFFER_TOO_SMALL when ltb room (length (text_of_plan M N L))) ∷ []) (not_due M N L r) (le-ltb room (length (text_of_plan M N L)) l, tt))

@@ -8,7 +8,7 @@ use native.Mathlib.Nat.{add-zero, zero-add}
 use native.Mathlib.Numerals.{add-one}
 use lib.ListN.{length, get_or, take, drop, set, length-set}
 use lib.Seq.{drop-cons, drop-length, take-suc-set}
-use Rattle.plan_text.specs.declared.recogniser.Reader.{Reader}
+use Rattle.plan_text.specs.declared.reader.Reader.{Reader}
 use Rattle.plan_text.specs.declared.reading.HowFar.{HowFar}
 use Rattle.plan_text.specs.Reading.{start, takes, past, ends_number, lived, past_all, numbers_in}
 use Rattle.plan_text.specs.Plans.{max_word, in_words, Scanned}
@@ -68,8 +68,7 @@ module _ (text before numbers : List ℕ) (r : Reader) (at count : ℕ) (g : Goi
     keeps true e =
         g.kept
         ∙ ap (λ (t : List ℕ). take count numbers ++ in_words (numbers_in r t)) ahead
-        ∙ ap (λ (t : Bool). take count numbers ++ in_words
-        (cond t (r.value ∷ numbers_in (past r b) (drop (at + 1) text)) (numbers_in (past r b) (drop (at + 1) text)))) e
+        ∙ ap (λ (t : Bool). take count numbers ++ in_words (cond t (r.value ∷ numbers_in (past r b) (drop (at + 1) text)) (numbers_in (past r b) (drop (at + 1) text)))) e
         ∙ sym (append_assoc (take count numbers) (min r.value max_word ∷ []) (in_words (numbers_in (past r b) (drop (at + 1) text))))
         ∙ ap (λ (t : List ℕ). t ++ in_words (numbers_in (past r b) (drop (at + 1) text)))
         (sym (take-suc-set numbers count (min r.value max_word) room_left)
@@ -77,8 +76,7 @@ module _ (text before numbers : List ℕ) (r : Reader) (at count : ℕ) (g : Goi
     keeps false e =
         g.kept
         ∙ ap (λ (t : List ℕ). take count numbers ++ in_words (numbers_in r t)) ahead
-        ∙ ap (λ (t : Bool). take count numbers ++ in_words
-        (cond t (r.value ∷ numbers_in (past r b) (drop (at + 1) text)) (numbers_in (past r b) (drop (at + 1) text)))) e
+        ∙ ap (λ (t : Bool). take count numbers ++ in_words (cond t (r.value ∷ numbers_in (past r b) (drop (at + 1) text)) (numbers_in (past r b) (drop (at + 1) text)))) e
 
     longer : (t : Bool) → cond t (count + 1) count ≤ at + 1
     longer true = omega (arith, g.few)
@@ -89,8 +87,7 @@ module _ (text before numbers : List ℕ) (r : Reader) (at count : ℕ) (g : Goi
     lengths false = g.as_long
 
     pub goes_on : takes r b ≡ true
-        → Going text before (cond (ends_number r b) (set numbers count (min r.value max_word)) numbers)
-        (past r b) (at + 1) (cond (ends_number r b) (count + 1) count)
+        → Going text before (cond (ends_number r b) (set numbers count (min r.value max_word)) numbers) (past r b) (at + 1) (cond (ends_number r b) (count + 1) count)
     unfolding lived past_all
     goes_on e =
         record {
@@ -114,8 +111,7 @@ module _ (text before numbers : List ℕ) (r : Reader) (at count : ℕ) (g : Goi
     turn e numbers' x r' y count' z =
         subst (λ (n : List ℕ). Going text before n r' (at + 1) count') (sym x)
         (subst (λ (q : Reader). Going text before (cond (ends_number r b) (set numbers count (min r.value max_word)) numbers) q (at + 1) count') (sym y)
-        (subst (λ (k : ℕ). Going text before (cond (ends_number r b) (set numbers count (min r.value max_word)) numbers) (past r b) (at + 1) k)
-        (sym z) (goes_on e)))
+        (subst (λ (k : ℕ). Going text before (cond (ends_number r b) (set numbers count (min r.value max_word)) numbers) (past r b) (at + 1) k) (sym z) (goes_on e)))
 
   pub ends : length text ≤ length before → at ≡ length text → Scanned text numbers (record { reader = r; at = at; count = count })
   unfolding lived past_all numbers_in

@@ -10,12 +10,11 @@ use lib.ListN.{length, get_or, take}
 use lib.Seq.{take-suc, take_all, append_snoc}
 use Rattle.answers.specs.Limits.{outside}
 use Rattle.answers.proofs.Ranges.{inside}
-use Rattle.plan_text.specs.declared.recogniser.Field.{Field}
-use Rattle.plan_text.specs.declared.recogniser.Reader.{Reader}
+use Rattle.plan_text.specs.declared.reader.Field.{Field}
+use Rattle.plan_text.specs.declared.reader.Reader.{Reader}
 use Rattle.plan_text.specs.Digits.{zero_byte, digits}
 use Rattle.plan_text.specs.Form.{max_number, AllShort}
-use Rattle.plan_text.specs.Reading.{key_of, end_of, next_field, in_key, is_digit, may_grow, ends_number, before_field, past_key_byte, past_digit, past}
-use Rattle.plan_text.specs.Reading.{lived, past_all, numbers_in}
+use Rattle.plan_text.specs.Reading.{key_of, end_of, next_field, in_key, is_digit, may_grow, ends_number, before_field, past_key_byte, past_digit, past, lived, past_all, numbers_in}
 use Rattle.plan_text.proofs.Bytes.{digit_byte}
 use Rattle.plan_text.proofs.Standing.{Taken, of_key, digit, ending, taken, Standing, stands_past}
 use Rattle.plan_text.proofs.Digits.{digits_small, digits_more}

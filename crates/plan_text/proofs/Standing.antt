@@ -8,8 +8,8 @@ use lib.ListN.{length, get_or}
 use lib.Dec.{eqb}
 use Rattle.answers.specs.Limits.{outside}
 use Rattle.answers.proofs.Ranges.{inside, both_true}
-use Rattle.plan_text.specs.declared.recogniser.Field.{Field}
-use Rattle.plan_text.specs.declared.recogniser.Reader.{Reader}
+use Rattle.plan_text.specs.declared.reader.Field.{Field}
+use Rattle.plan_text.specs.declared.reader.Reader.{Reader}
 use Rattle.plan_text.specs.Form.{max_number}
 use Rattle.plan_text.specs.Reading.{key_of, end_of, next_field, in_key, is_digit, may_grow, takes, past, before_field, past_key_byte, past_digit, start}
 use Rattle.plan_text.proofs.Bytes.{digit_byte}

@@ -17,9 +17,9 @@ use Rattle.flows.specs.Flows.{flow_count, list_rules, list_answer}
 use Rattle.plan_text.specs.Plans.{over, plan_of, plan_if_done, over_if_done, room_rules, take_answer, taken_plan, taken_into, write_answer, written_into}
 use Rattle.plan_text.specs.Form.{text_of_plan}
 
--- on a refusal frame, ports and the number of flows are 0 and the buffer stays
-pub refused_plan : (a : Answer) (M N K : ℕ) → (a.number ≡ DONE → ⊥) → plan_of a 0 0 0 ≡ plan_if_done a M N K
-refused_plan a M N K h = sym (ap (λ (b : Bool). plan_of a (cond b M 0) (cond b N 0) (cond b K 0)) (ne_eqb a.number DONE h))
+-- on a refusal frame and ports are 0 and the buffer stays
+pub refused_plan : (a : Answer) (M N : ℕ) → (a.number ≡ DONE → ⊥) → plan_of a 0 0 ≡ plan_if_done a M N
+refused_plan a M N h = sym (ap (λ (b : Bool). plan_of a (cond b M 0) (cond b N 0)) (ne_eqb a.number DONE h))
 
 pub refused_stays : (a : Answer) (L buffer : List ℕ) → (a.number ≡ DONE → ⊥) → buffer ≡ over_if_done a L buffer
 refused_stays a L buffer h = sym (ap (λ (b : Bool). cond b (over L buffer) buffer) (ne_eqb a.number DONE h))
@@ -49,15 +49,14 @@ module _ (M N : ℕ) (L : List ℕ) (room needed : ℕ) (done : ℤ) (a : Answer
         ∙ ap (λ (b : Bool). cond b (refusal BUFFER_TOO_SMALL) (done_with done)) (le-ltb room needed u))
 
 -- the same of the numbers of a text, frame and ports first
-module _ (ns buffer : List ℕ) (M N : ℕ) (L : List ℕ) (m : M ≡ get_or ns 0 0)
-    (n : N ≡ get_or ns 1 0) (l : L ≡ drop 2 ns) (a : Answer) (e : a ≡ list_answer M N L) where
-  plan_is : (x : Answer) → x ≡ take_answer M N L (length buffer) → plan_if_done x M N (flow_count L) ≡ taken_plan ns (length buffer)
+module _ (ns buffer : List ℕ) (M N : ℕ) (L : List ℕ) (m : M ≡ get_or ns 0 0) (n : N ≡ get_or ns 1 0) (l : L ≡ drop 2 ns) (a : Answer) (e : a ≡ list_answer M N L) where
+  plan_is : (x : Answer) → x ≡ take_answer M N L (length buffer) → plan_if_done x M N ≡ taken_plan ns (length buffer)
   unfolding taken_plan
   plan_is x f =
-      ap (λ (y : Answer). plan_if_done y M N (flow_count L)) f
-      ∙ ap (λ (y : ℕ). plan_if_done (take_answer y N L (length buffer)) y N (flow_count L)) m
-      ∙ ap (λ (y : ℕ). plan_if_done (take_answer (get_or ns 0 0) y L (length buffer)) (get_or ns 0 0) y (flow_count L)) n
-      ∙ ap (λ (y : List ℕ). plan_if_done (take_answer (get_or ns 0 0) (get_or ns 1 0) y (length buffer)) (get_or ns 0 0) (get_or ns 1 0) (flow_count y)) l
+      ap (λ (y : Answer). plan_if_done y M N) f
+      ∙ ap (λ (y : ℕ). plan_if_done (take_answer y N L (length buffer)) y N) m
+      ∙ ap (λ (y : ℕ). plan_if_done (take_answer (get_or ns 0 0) y L (length buffer)) (get_or ns 0 0) y) n
+      ∙ ap (λ (y : List ℕ). plan_if_done (take_answer (get_or ns 0 0) (get_or ns 1 0) y (length buffer)) (get_or ns 0 0) (get_or ns 1 0)) l
 
   buffer_is : (x : Answer) → x ≡ take_answer M N L (length buffer) → over_if_done x L buffer ≡ taken_into ns buffer
   unfolding taken_into
@@ -67,21 +66,21 @@ module _ (ns buffer : List ℕ) (M N : ℕ) (L : List ℕ) (m : M ≡ get_or ns 
       ∙ ap (λ (y : ℕ). over_if_done (take_answer (get_or ns 0 0) y L (length buffer)) L buffer) n
       ∙ ap (λ (y : List ℕ). over_if_done (take_answer (get_or ns 0 0) (get_or ns 1 0) y (length buffer)) y buffer) l
 
-  pub list_refuses : (a.number ≡ DONE → ⊥) → (plan_of a 0 0 0 ≡ taken_plan ns (length buffer)) × (buffer ≡ taken_into ns buffer)
+  pub list_refuses : (a.number ≡ DONE → ⊥) → (plan_of a 0 0 ≡ taken_plan ns (length buffer)) × (buffer ≡ taken_into ns buffer)
   unfolding take_answer
   list_refuses h =
       let x = list_refused M N L (length buffer) (length L) (pos (flow_count L)) a e h in
-      (refused_plan a M N (flow_count L) h ∙ plan_is a x, refused_stays a L buffer h ∙ buffer_is a x)
+      (refused_plan a M N h ∙ plan_is a x, refused_stays a L buffer h ∙ buffer_is a x)
 
   pub no_room : a.number ≡ DONE → length buffer < length L
-      → (plan_of (refusal BUFFER_TOO_SMALL) 0 0 0 ≡ taken_plan ns (length buffer)) × (buffer ≡ taken_into ns buffer)
+      → (plan_of (refusal BUFFER_TOO_SMALL) 0 0 ≡ taken_plan ns (length buffer)) × (buffer ≡ taken_into ns buffer)
   unfolding take_answer
   no_room d u =
       let x = too_small M N L (length buffer) (length L) (pos (flow_count L)) a e d u in
       (plan_is (refusal BUFFER_TOO_SMALL) x, buffer_is (refusal BUFFER_TOO_SMALL) x)
 
   pub goes_over : a.number ≡ DONE → length L ≤ length buffer
-      → (plan_of (done_with (pos (flow_count L))) M N (flow_count L) ≡ taken_plan ns (length buffer)) × (over L buffer ≡ taken_into ns buffer)
+      → (plan_of (done_with (pos (flow_count L))) M N ≡ taken_plan ns (length buffer)) × (over L buffer ≡ taken_into ns buffer)
   unfolding take_answer
   goes_over d u =
       let x = room_enough M N L (length buffer) (length L) (pos (flow_count L)) a e d u in

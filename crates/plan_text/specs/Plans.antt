@@ -29,12 +29,12 @@ pub record Scanned (text numbers : List ℕ) (s : HowFar) : Type 0 where
   pub kept : s.at ≡ length text → take s.count numbers ≡ in_words (numbers_in start text)
   pub counted : s.count ≤ length numbers
 
-abbrev pub plan_of : Answer → ℕ → ℕ → ℕ → Plan
-plan_of a M N K = record { answer = a; frame = M; ports = N; flows = K }
+abbrev pub plan_of : Answer → ℕ → ℕ → Plan
+plan_of a M N = record { answer = a; frame = M; ports = N }
 
--- an answer with frame, ports and the number of flows beside it, all 0 on a refusal
-abbrev pub plan_if_done : Answer → ℕ → ℕ → ℕ → Plan
-plan_if_done a M N K = plan_of a (cond (is_done a) M 0) (cond (is_done a) N 0) (cond (is_done a) K 0)
+-- an answer with frame and ports beside it, both 0 on a refusal
+abbrev pub plan_if_done : Answer → ℕ → ℕ → Plan
+plan_if_done a M N = plan_of a (cond (is_done a) M 0) (cond (is_done a) N 0)
 
 -- the buffer with the list at its front, unchanged on a refusal
 abbrev pub over_if_done : Answer → List ℕ → List ℕ → List ℕ
@@ -53,7 +53,7 @@ take_answer M N L room = first (take_rules M N L room) (done_with (pos (flow_cou
 
 -- a plan taken over from its numbers, frame and ports first
 unfoldable pub taken_plan : List ℕ → ℕ → Plan
-taken_plan ns room = plan_if_done (take_answer (get_or ns 0 0) (get_or ns 1 0) (drop 2 ns) room) (get_or ns 0 0) (get_or ns 1 0) (flow_count (drop 2 ns))
+taken_plan ns room = plan_if_done (take_answer (get_or ns 0 0) (get_or ns 1 0) (drop 2 ns) room) (get_or ns 0 0) (get_or ns 1 0)
 
 unfoldable pub taken_into : List ℕ → List ℕ → List ℕ
 taken_into ns buffer = over_if_done (take_answer (get_or ns 0 0) (get_or ns 1 0) (drop 2 ns) (length buffer)) (drop 2 ns) buffer
@@ -71,7 +71,7 @@ read_answer text room = first (read_rules text room) (done_with (pos (flow_count
 
 -- what reading hands back
 unfoldable pub read_plan : List ℕ → ℕ → Plan
-read_plan text room = plan_if_done (read_answer text room) (frame_in text) (ports_in text) (flow_count (list_in text))
+read_plan text room = plan_if_done (read_answer text room) (frame_in text) (ports_in text)
 
 -- the lent buffer after reading
 unfoldable pub read_into : List ℕ → List ℕ → List ℕ

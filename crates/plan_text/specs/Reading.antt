@@ -1,9 +1,9 @@
 -- Reading byte by byte: what has been read so far, and which bytes may come next. It dies at the first byte that no text of the form has there.
 use Rattle.std.specs.Prelude.{ℕ, suc, ◌+◌, ◌-◌, ◌*◌, ◌/◌, Bool, true, false, not, cond, ◌&&◌, ◌||◌, List, [], ◌∷◌, length, get_or, drop, eqb, ltb}
 use Rattle.answers.specs.Limits.{outside}
-use Rattle.plan_text.specs.declared.recogniser.Reader.{Reader}
-use Rattle.plan_text.specs.declared.recogniser.Field.{Field}
-use Rattle.plan_text.specs.declared.recogniser.Field.TheVariants.{Frame, Ports, Input, Output, Cells}
+use Rattle.plan_text.specs.declared.reader.Reader.{Reader}
+use Rattle.plan_text.specs.declared.reader.Field.{Field}
+use Rattle.plan_text.specs.declared.reader.Field.TheVariants.{Frame, Ports, Input, Output, Cells}
 use Rattle.plan_text.specs.Digits.{zero_byte}
 use Rattle.plan_text.specs.Form.{line_feed, comma, frame_key, ports_key, flow_key, max_number}
 

@@ -8,6 +8,12 @@ ghost use Rattle.plan_text.specs.Lines.{signed, joined, joined_tail, answer_line
 use crate::keys::{ANSWER_KEY, COMMA, LINE_FEED, MINUS, OUT_KEY};
 use crate::writing::{put_byte, put_bytes, put_number};
 
+fn wide(x: u8) -> u64
+    ensures { result ≡ x }
+{
+    x as u64
+}
+
 // Puts a signed number: a minus sign where it is below zero, then its digits.
 pub fn put_signed(out: &mut [u8], at: usize, n: i32) -> usize
     requires { at + length (signed n) ≤ length out.old }
@@ -39,7 +45,7 @@ fn put_after_comma(out: &mut [u8], at: usize, entry: u8) -> usize
     ensures { Put out.old at (comma ∷ digits entry) out.new result }
 {
     let next = put_byte(out, at, COMMA);
-    put_number(out, next, entry as u64)
+    put_number(out, next, wide(entry))
 }
 
 // Puts the entries of a row but the first, each after a comma.
@@ -64,7 +70,7 @@ fn put_entries(out: &mut [u8], at: usize, row: &[u8]) -> usize
     if row.len() == 0 {
         return at;
     }
-    let next = put_number(out, at, row[0] as u64);
+    let next = put_number(out, at, wide(row[0]));
     put_tail(out, next, row)
 }
 

@@ -5,19 +5,18 @@ ghost use Rattle.plan_text.specs.Form.{max_number};
 ghost use Rattle.plan_text.specs.Reading.{ends_number};
 ghost use Rattle.plan_text.specs.Plans.{plan_of, max_word, over, Scanned, taken_plan, taken_into, read_plan, read_into};
 
-use crate::recogniser::{Field, Reader, before_field, ends_number, may_end, past, takes};
+use crate::reader::{Field, Reader};
 use answers::{Answer, BUFFER_TOO_SMALL, DONE, MAX_TEXT, TEXT_NOT_OF_FORM, TEXT_TOO_LONG};
 
 // The largest number of 16 bits.
 const MAX_WORD: usize = 65535;
 
-// What reading hands back: its answer, beside frame, ports and the number of flows, all 0 on a refusal.
+// What reading hands back: its answer, beside frame and ports, both 0 on a refusal.
 #[derive(Drop)]
 pub struct Plan {
     pub answer: Answer,
     pub frame: usize,
     pub ports: usize,
-    pub flows: usize,
 }
 
 // How far a text was read: where the reading stands, at which byte, and how many numbers were kept.
@@ -26,6 +25,12 @@ pub struct HowFar {
     pub reader: Reader,
     pub at: usize,
     pub count: usize,
+}
+
+fn wide(x: u16) -> usize
+    ensures { result ≡ x }
+{
+    x as usize
 }
 
 // A number in 16 bits: what does not fit is kept as the largest, which is out of every range.
@@ -42,10 +47,9 @@ fn in_word(n: usize) -> u16
 fn keep(reader: Reader, b: u8, numbers: &mut [u16], count: usize) -> usize
     requires { count < length numbers.old }
     ensures kept { result ≡ cond (ends_number reader b) (count + 1) count }
-    ensures stored { numbers.new
-        ≡ cond (ends_number reader b) (set numbers.old count (min reader.value max_word)) numbers.old }
+    ensures stored { numbers.new ≡ cond (ends_number reader b) (set numbers.old count (min reader.value max_word)) numbers.old }
 {
-    if ends_number(reader, b) {
+    if crate::reader::ends_number(reader, b) {
         numbers[count] = in_word(reader.value);
         return count + 1;
     }
@@ -57,30 +61,29 @@ fn scan(text: &[u8], numbers: &mut [u16]) -> HowFar
     requires { length text.now ≤ length numbers.old }
     ensures { Scanned text.now numbers.new result }
 {
-    let mut reader = before_field(Field::Frame);
+    let mut reader = crate::reader::before_field(Field::Frame);
     let mut at = 0;
     let mut count = 0;
     while at < text.len() {
         let b = text[at];
-        if !takes(reader, b) {
+        if !crate::reader::takes(reader, b) {
             return HowFar { reader, at, count };
         }
         count = keep(reader, b, numbers, count);
-        reader = past(reader, b);
+        reader = crate::reader::past(reader, b);
         at += 1;
     }
     HowFar { reader, at, count }
 }
 
-// A refusal's plan: its answer, and nothing beside it.
-pub fn refused(answer: Answer) -> Plan
-    ensures { result ≡ plan_of answer 0 0 0 }
+// A refusal's plan.
+fn refused(answer: Answer) -> Plan
+    ensures { result ≡ plan_of answer 0 0 }
 {
     Plan {
         answer,
         frame: 0,
         ports: 0,
-        flows: 0,
     }
 }
 
@@ -102,8 +105,8 @@ fn take_over(numbers: &[u16], list: &mut [u16]) -> Plan
     ensures handed { result ≡ taken_plan numbers.now (length list.old) }
     ensures left { list.new ≡ taken_into numbers.now list.old }
 {
-    let frame = numbers[0] as usize;
-    let ports = numbers[1] as usize;
+    let frame = wide(numbers[0]);
+    let ports = wide(numbers[1]);
     let flows = &numbers[2..];
     let listed = flows::list_answer(frame, ports, flows);
     if listed.number != DONE {
@@ -113,12 +116,10 @@ fn take_over(numbers: &[u16], list: &mut [u16]) -> Plan
         return refused(answers::refusal(BUFFER_TOO_SMALL));
     }
     put_over(flows, list);
-    let count = flows::flow_count(flows);
     Plan {
-        answer: answers::naming(DONE, count),
+        answer: answers::naming(DONE, flows::flow_count(flows)),
         frame,
         ports,
-        flows: count,
     }
 }
 
@@ -138,7 +139,7 @@ pub fn read(text: &[u8], list: &mut [u16]) -> Plan
     if at < text.len() {
         return refused(answers::naming(TEXT_NOT_OF_FORM, at));
     }
-    if !may_end(reader) {
+    if !crate::reader::may_end(reader) {
         return refused(answers::naming(TEXT_NOT_OF_FORM, at));
     }
     take_over(&numbers[..count], list)

@@ -1,11 +1,11 @@
 // Writing a plan text. The text is composed apart, so that the lent buffer changes only if all of it has room.
 ghost use Rattle.std.specs.Prelude.{◌≡◌, ◌∷◌, [], ◌++◌, ◌+◌, ◌*◌, ◌%◌, ◌<◌, ◌≤◌, length};
 ghost use Rattle.flows.specs.Flows.{per_flow, flow_count};
-ghost use Rattle.plan_text.specs.Digits.{zero_byte, digits};
+ghost use Rattle.plan_text.specs.Digits.{digits};
 ghost use Rattle.plan_text.specs.Form.{line, flow_line, flow_lines, text_of_plan};
 ghost use Rattle.plan_text.specs.Plans.{Put, write_answer, written_into};
 
-use crate::keys::{COMMA, FLOW_KEY, FRAME_KEY, LINE_FEED, PORTS_KEY, ZERO_BYTE};
+use crate::keys::{COMMA, FLOW_KEY, FRAME_KEY, LINE_FEED, PORTS_KEY};
 use answers::{Answer, BUFFER_TOO_SMALL, DONE, MAX_TEXT};
 
 // Puts one byte; hands back the place after it, as each of these functions does.
@@ -32,9 +32,9 @@ pub fn put_bytes(out: &mut [u8], at: usize, bytes: &[u8]) -> usize
 
 // The byte of a number's last digit.
 fn last_digit(n: u64) -> u8
-    ensures { result ≡ zero_byte + n % 10 }
+    ensures { result ≡ 48 + n % 10 }
 {
-    (ZERO_BYTE as u64 + n % 10) as u8
+    (48 + n % 10) as u8
 }
 
 // Puts a number in its digits, the leading ones first.

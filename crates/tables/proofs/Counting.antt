@@ -33,8 +33,7 @@ pick_one false = refl
 -- an entry is counted at its own flow alone
 one_flow : (K : ℕ) (g : ℕ → Bool) (e : ℕ) → (e ≡ 0) ⊎ ((1 ≤ e) × (e ≤ K)) → sum K (λ k. cond (g (suc k)) (one (eqb e (suc k))) 0) ≡ counted g e
 one_flow K g e (inl z) =
-    sum_zero K (λ k. cond (g (suc k)) (one (eqb e (suc k))) 0)
-    (λ k l. pick_none (g (suc k)) (one (eqb e (suc k))) (ap one (ne_eqb e (suc k) (λ x. omega arith))))
+    sum_zero K (λ k. cond (g (suc k)) (one (eqb e (suc k))) 0) (λ k l. pick_none (g (suc k)) (one (eqb e (suc k))) (ap one (ne_eqb e (suc k) (λ x. omega arith))))
     ∙ sym (rw (eq-eqb e 0 z))
 one_flow K g zero (inr b) = absurd (omega (arith, b.0))
 one_flow K g (suc j) (inr b) =

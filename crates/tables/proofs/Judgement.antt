@@ -54,8 +54,7 @@ module _ (M N : ℕ) (L T : List ℕ) where
       (subst (λ (x : ℕ). (get_or T x 0 ≡ 0) ⊎ FlowOf L (suc (p / M)) (get_or T x 0)) (div-add-mod' p M)
       (h (p / M) (p % M) ((div-lt_iff_lt-mul (some_slot p N M u)).1 u) (mod-lt p (some_slot p N M u))))
 
-  shares : (s a b : ℕ) → (entry M T a s ≡ 0 → ⊥) → (entry M T b s ≡ 0 → ⊥)
-      → input_of L (entry M T a s) ≡ input_of L (entry M T b s) → share_input M L T s a b ≡ true
+  shares : (s a b : ℕ) → (entry M T a s ≡ 0 → ⊥) → (entry M T b s ≡ 0 → ⊥) → input_of L (entry M T a s) ≡ input_of L (entry M T b s) → share_input M L T s a b ≡ true
   shares s a b da db e =
       ap (λ (x : Bool). not x && (not (eqb (entry M T b s) 0) && eqb (input_of L (entry M T a s)) (input_of L (entry M T b s)))) (ne_eqb _ _ da)
       ∙ ap (λ (x : Bool). not x && eqb (input_of L (entry M T a s)) (input_of L (entry M T b s))) (ne_eqb _ _ db)
@@ -162,6 +161,5 @@ module _ (M N : ℕ) (L T : List ℕ) where
       record {
         of_its_row = rows_right (λ k l u. somewhere_false 0 (N * M) (not_of_row M L T) h.0 k l (omega arith));
         input_once = inputs_right (λ k l u. somewhere_false 0 M (input_twice M N L T) h.1.0 k l (omega arith));
-        exact_counts = λ k w. eqb-true _ _
-            (not-false _ (somewhere_false 1 (flow_count L) (count_wrong M N L T) h.1.1.0 k w.at_least (omega (arith, w.at_most))));
+        exact_counts = λ k w. eqb-true _ _ (not-false _ (somewhere_false 1 (flow_count L) (count_wrong M N L T) h.1.1.0 k w.at_least (omega (arith, w.at_most))));
       }

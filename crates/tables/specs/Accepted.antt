@@ -20,8 +20,7 @@ pub record Accepted (M N : ℕ) (L T : List ℕ) : Type 0 where
   -- each entry is 0 or the number of a flow whose output is that row's
   pub of_its_row : (r s : ℕ) → r < N → s < M → (entry M T r s ≡ 0) ⊎ FlowOf L (suc r) (entry M T r s)
   -- in no slot do two rows hold flows of one input
-  pub input_once : (s a b : ℕ) → s < M → a < N → b < N → (a ≡ b → ⊥) → (entry M T a s ≡ 0 → ⊥) → (entry M T b s ≡ 0 → ⊥)
-      → input_of L (entry M T a s) ≡ input_of L (entry M T b s) → ⊥
+  pub input_once : (s a b : ℕ) → s < M → a < N → b < N → (a ≡ b → ⊥) → (entry M T a s ≡ 0 → ⊥) → (entry M T b s ≡ 0 → ⊥) → input_of L (entry M T a s) ≡ input_of L (entry M T b s) → ⊥
   -- each flow stands in the table exactly as many times as its cells
   pub exact_counts : (k : ℕ) → IsFlow L k → times M N T k ≡ cells_of L k
 

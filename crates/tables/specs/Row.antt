@@ -1,21 +1,18 @@
 -- A row as a part of the table, and what is answered for it: document 01's order 1, 2, 7, 22.
-use Rattle.std.specs.Prelude.{ℕ, ◌-◌, ◌*◌, List, [], ◌∷◌, ◌++◌, Bool, cond, length, take, drop, pos, ltb}
+use Rattle.std.specs.Prelude.{ℕ, ◌-◌, ◌*◌, List, [], ◌∷◌, Bool, cond, length, take, drop, pos, ltb}
 use Rattle.answers.specs.declared.Answer.{Answer}
-use Rattle.answers.specs.Numbers.{TABLE_TOO_SHORT, OUTPUT_OUT_OF_RANGE}
-use Rattle.answers.specs.Limits.{outside}
+use Rattle.answers.specs.Numbers.{FRAME_OUT_OF_RANGE, PORTS_OUT_OF_RANGE, TABLE_TOO_SHORT, OUTPUT_OUT_OF_RANGE}
+use Rattle.answers.specs.Limits.{max_frame, max_ports, outside}
 use Rattle.answers.specs.Answers.{Rule, refusal, done_with, is_done, ◌when◌, first}
-use Rattle.answers.specs.Sizes.{size_rules}
 
--- the refusals of a row once frame and ports are in range, in their order: 7, 22
-abbrev pub part_rules : ℕ → ℕ → ℕ → ℕ → List Rule
-part_rules M N size j =
-    (refusal TABLE_TOO_SHORT when ltb size (N * M))
+-- the refusals of a row, in their order
+abbrev pub row_rules : ℕ → ℕ → ℕ → ℕ → List Rule
+row_rules M N size j =
+    (refusal FRAME_OUT_OF_RANGE when outside 1 max_frame M)
+    ∷ (refusal PORTS_OUT_OF_RANGE when outside 1 max_ports N)
+    ∷ (refusal TABLE_TOO_SHORT when ltb size (N * M))
     ∷ (refusal OUTPUT_OUT_OF_RANGE when outside 1 N j)
     ∷ []
-
--- the refusals of a row, in their order: 1, 2, 7, 22
-abbrev pub row_rules : ℕ → ℕ → ℕ → ℕ → List Rule
-row_rules M N size j = size_rules M N ++ part_rules M N size j
 
 -- what is answered for output j of a table of that length
 unfoldable pub row_answer : ℕ → ℕ → ℕ → ℕ → Answer

@@ -8,12 +8,18 @@ ghost use Rattle.tables.specs.Check.{no_flow_of, not_of_row, share_input, input_
 
 use answers::{Answer, COUNT_WRONG, DONE, ENTRY_NOT_OF_ROW, INPUT_TWICE_IN_SLOT, TABLE_TOO_SHORT};
 
+fn wide(x: u8) -> usize
+    ensures { result ≡ x }
+{
+    x as usize
+}
+
 // What stands in a row at a slot.
 pub fn entry_at(frame: usize, table: &[u8], row: usize, slot: usize) -> usize
     requires { row * frame + slot < length table.now }
     ensures { result ≡ entry frame table.now row slot }
 {
-    table[row * frame + slot] as usize
+    wide(table[row * frame + slot])
 }
 
 // Whether an entry is not the number of a flow for that output.
@@ -31,7 +37,7 @@ fn not_of_row(frame: usize, list: &[u16], table: &[u8], place: usize) -> bool
     requires { (0 < frame) × (place < length table.now) }
     ensures { result ≡ not_of_row frame list.now table.now place }
 {
-    let number = table[place] as usize;
+    let number = wide(table[place]);
     if number == 0 {
         return false;
     }
@@ -129,7 +135,7 @@ fn count_entries(table: &[u8], end: usize) -> [u32; 256]
     let mut counts = [0u32; 256];
     let mut place = 0;
     while place < end {
-        let number = table[place] as usize;
+        let number = wide(table[place]);
         counts[number] = counts[number] + 1;
         place += 1;
     }
@@ -171,7 +177,7 @@ fn entries_answer(frame: usize, ports: usize, list: &[u16], table: &[u8]) -> Ans
     if flow <= flows::flow_count(list) {
         return answers::naming(COUNT_WRONG, flow);
     }
-    answers::done()
+    answers::refusal(DONE)
 }
 
 // Whether a table is accepted for a list, and if not, why.

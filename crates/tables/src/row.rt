@@ -2,15 +2,20 @@
 ghost use Rattle.std.specs.Prelude.{◌≡◌, ◌+◌, length};
 ghost use Rattle.tables.specs.Row.{row_answer, row_start, row_part};
 
-use answers::{Answer, DONE, OUTPUT_OUT_OF_RANGE, TABLE_TOO_SHORT};
+use answers::{
+    Answer, DONE, FRAME_OUT_OF_RANGE, MAX_FRAME, MAX_PORTS, OUTPUT_OUT_OF_RANGE,
+    PORTS_OUT_OF_RANGE, TABLE_TOO_SHORT,
+};
 
 // What is answered for an output's row: done exactly where its part is not empty.
 pub fn row_answer(frame: usize, ports: usize, table: &[u8], output: usize) -> Answer
     ensures { result ≡ row_answer frame ports (length table.now) output }
 {
-    let sized = answers::size_answer(frame, ports);
-    if sized.number != DONE {
-        return sized;
+    if answers::outside(1, MAX_FRAME, frame) {
+        return answers::refusal(FRAME_OUT_OF_RANGE);
+    }
+    if answers::outside(1, MAX_PORTS, ports) {
+        return answers::refusal(PORTS_OUT_OF_RANGE);
     }
     if table.len() < ports * frame {
         return answers::refusal(TABLE_TOO_SHORT);
@@ -18,7 +23,7 @@ pub fn row_answer(frame: usize, ports: usize, table: &[u8], output: usize) -> An
     if answers::outside(1, ports, output) {
         return answers::refusal(OUTPUT_OUT_OF_RANGE);
     }
-    answers::done()
+    answers::refusal(DONE)
 }
 
 // The row of an output: its part of the lent table, or the empty part at the table's start.

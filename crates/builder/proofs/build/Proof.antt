@@ -24,47 +24,29 @@ load_answer_requires c κs =
 
 returns_2 : tie.Need-returns-2
 returns_2 c =
-    let at_load_answer = c.before.before in
-    let at_if1 = at_load_answer.before in
-    let at_list_answer = at_if1.before.before in
-    let a = at_list_answer.before.before.before.args in
-    refused_by_loads a.frame a.ports a.list.now a.table.now _ at_list_answer.list-answer.ensures
-    at_if1.if1.false _ at_load_answer.load-answer.ensures c.if2.true
+    let a = c.before.before.before.before.before.before.before.before.args in
+    refused_by_loads a.frame a.ports a.list.now a.table.now _ c.before.before.before.before.before.list-answer.ensures c.before.before.before.if1.false _ c.before.before.load-answer.ensures c.if2.true
 
 mul_clear : tie.Need-overflow-mul-clear
 mul_clear c =
-    let at_if1 = c.before.before.before.before in
-    let at_list_answer = at_if1.before.before in
-    let a = at_list_answer.before.before.before.args in
-    let r = listed a.frame a.ports a.list.now _ at_list_answer.list-answer.ensures at_if1.if1.false in
+    let a = c.before.before.before.before.before.before.before.before.before.args in
+    let r = listed a.frame a.ports a.list.now _ c.before.before.before.before.before.before.list-answer.ensures c.before.before.before.before.if1.false in
     omega (arith, size_of r.frame_in_range r.ports_in_range)
 
 clear_requires : tie.Need-clear-requires
 clear_requires c κs =
-    let at_load_answer = c.before.before.before in
-    let at_if1 = at_load_answer.before in
-    let at_list_answer = at_if1.before.before in
-    let a = at_list_answer.before.before.before.args in
-    (may_fill a.frame a.ports a.list.now a.table.now _ at_list_answer.list-answer.ensures
-    at_if1.if1.false _ at_load_answer.load-answer.ensures c.before.if2.false).table.long_enough
+    let a = c.before.before.before.before.before.before.before.before.before.args in
+    (may_fill a.frame a.ports a.list.now a.table.now _ c.before.before.before.before.before.before.list-answer.ensures c.before.before.before.before.if1.false _ c.before.before.before.load-answer.ensures c.before.if2.false).table.long_enough
 
 slice_aggregate_fill : tie.Need-slice-aggregate-fill
 slice_aggregate_fill c = search rules
 
 fill_requires : tie.Need-fill-requires
 fill_requires c κs =
-    let at_clear = c.before.before.before.before in
-    let at_if2 = at_clear.before.before in
-    let at_load_answer = at_if2.before.before in
-    let at_if1 = at_load_answer.before in
-    let at_list_answer = at_if1.before.before in
-    let a = at_list_answer.before.before.before.args in (
-      may_fill_same (may_fill a.frame a.ports a.list.now a.table.now _ at_list_answer.list-answer.ensures
-          at_if1.if1.false _ at_load_answer.load-answer.ensures at_if2.if2.false) at_clear.clear.auto.0,
-      emptied-start a.frame a.ports a.list.now a.table.now _ at_list_answer.list-answer.ensures
-          at_if1.if1.false _ at_load_answer.load-answer.ensures at_if2.if2.false _ at_clear.clear.ensures,
-      emptied-marked a.frame a.ports a.list.now a.table.now _ at_list_answer.list-answer.ensures
-          at_if1.if1.false _ at_load_answer.load-answer.ensures at_if2.if2.false _ at_clear.clear.ensures,
+    let a = c.before.before.before.before.before.before.before.before.before.before.before.before.before.before.args in (
+      may_fill_same (may_fill a.frame a.ports a.list.now a.table.now _ c.before.before.before.before.before.before.before.before.before.before.before.list-answer.ensures c.before.before.before.before.before.before.before.before.before.if1.false _ c.before.before.before.before.before.before.before.before.load-answer.ensures c.before.before.before.before.before.before.if2.false) c.before.before.before.before.clear.auto.0,
+      emptied-start a.frame a.ports a.list.now a.table.now _ c.before.before.before.before.before.before.before.before.before.before.before.list-answer.ensures c.before.before.before.before.before.before.before.before.before.if1.false _ c.before.before.before.before.before.before.before.before.load-answer.ensures c.before.before.before.before.before.before.if2.false _ c.before.before.before.before.clear.ensures,
+      emptied-marked a.frame a.ports a.list.now a.table.now _ c.before.before.before.before.before.before.before.before.before.before.before.list-answer.ensures c.before.before.before.before.before.before.before.before.before.if1.false _ c.before.before.before.before.before.before.before.before.load-answer.ensures c.before.before.before.before.before.before.if2.false _ c.before.before.before.before.clear.ensures,
     )
 
 same_length : tie.Need-same-length
@@ -72,16 +54,9 @@ same_length c = search rules
 
 returns_3 : tie.Need-returns-3
 returns_3 c =
-    let at_fill_lem = c.before.before.before in
-    let at_clear = at_fill_lem.before.before.before.before.before in
-    let at_if2 = at_clear.before.before in
-    let at_load_answer = at_if2.before.before in
-    let at_if1 = at_load_answer.before in
-    let at_list_answer = at_if1.before.before in
-    let a = at_list_answer.before.before.before.args in
-    built a.frame a.ports a.list.now a.table.now _ at_list_answer.list-answer.ensures
-    at_if1.if1.false _ at_load_answer.load-answer.ensures at_if2.if2.false
-    _ _ _ at_clear.clear.ensures at_fill_lem.fill.ensures
+    let a = c.before.before.before.before.before.before.before.before.before.before.before.before.before.before.before.before.before.before.args in
+    built a.frame a.ports a.list.now a.table.now _ c.before.before.before.before.before.before.before.before.before.before.before.before.before.before.before.list-answer.ensures c.before.before.before.before.before.before.before.before.before.before.before.before.before.if1.false _ c.before.before.before.before.before.before.before.before.before.before.before.before.load-answer.ensures c.before.before.before.before.before.before.before.before.before.before.if2.false
+    _ _ _ c.before.before.before.before.before.before.before.before.clear.ensures c.before.before.before.fill.ensures
 
 pub build_spec : {M : Type 1} → statement M
 build_spec =

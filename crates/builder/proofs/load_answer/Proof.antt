@@ -15,10 +15,8 @@ naming_requires c κs = search rules
 
 returns : tie.Need-returns
 returns c =
-    let f = c.before.before in
-    let a = f.before.before.args in
-    c.naming.ensures
-    ∙ input_refused a.frame a.ports a.list.now a.length _ f.first-overloaded-input.ensures c.before.if1.true
+    let a = c.before.before.before.before.args in
+    c.naming.ensures ∙ input_refused a.frame a.ports a.list.now a.length _ c.before.before.first-overloaded-input.ensures c.before.if1.true
 
 first_overloaded_output_requires : tie.Need-first-overloaded-output-requires
 first_overloaded_output_requires c κs = search rules
@@ -28,12 +26,9 @@ naming_requires_2 c κs = search rules
 
 returns_2 : tie.Need-returns-2
 returns_2 c =
-    let g = c.before.before in
-    let f = g.before.before in
-    let a = f.before.before.args in
+    let a = c.before.before.before.before.before.before.args in
     c.naming2.ensures
-    ∙ output_refused a.frame a.ports a.list.now a.length _ f.first-overloaded-input.ensures g.before.if1.false
-    _ g.first-overloaded-output.ensures c.before.if2.true
+    ∙ output_refused a.frame a.ports a.list.now a.length _ c.before.before.before.before.first-overloaded-input.ensures c.before.before.before.if1.false _ c.before.before.first-overloaded-output.ensures c.before.if2.true
 
 mul_if3 : tie.Need-overflow-mul-if3
 mul_if3 c = let b = c.before.before.before.before.before in omega (arith, mul-le-mul b.requires.0 b.requires.1)
@@ -43,24 +38,18 @@ refusal_requires c κs = search rules
 
 returns_3 : tie.Need-returns-3
 returns_3 c =
-    let g = c.before.before.before in
-    let f = g.before.before in
-    let a = f.before.before.args in
+    let a = c.before.before.before.before.before.before.before.args in
     c.refusal.ensures
-    ∙ length_refused a.frame a.ports a.list.now a.length _ f.first-overloaded-input.ensures g.before.if1.false
-    _ g.first-overloaded-output.ensures c.before.before.if2.false c.before.if3.true
+    ∙ length_refused a.frame a.ports a.list.now a.length _ c.before.before.before.before.before.first-overloaded-input.ensures c.before.before.before.before.if1.false _ c.before.before.before.first-overloaded-output.ensures c.before.before.if2.false c.before.if3.true
 
-done_requires : tie.Need-done-requires
-done_requires c κs = search rules
+refusal_requires_2 : tie.Need-refusal-requires-2
+refusal_requires_2 c κs = search rules
 
 returns_4 : tie.Need-returns-4
 returns_4 c =
-    let g = c.before.before.before in
-    let f = g.before.before in
-    let a = f.before.before.args in
-    c.done.ensures
-    ∙ loads_done a.frame a.ports a.list.now a.length _ f.first-overloaded-input.ensures g.before.if1.false
-    _ g.first-overloaded-output.ensures c.before.before.if2.false c.before.if3.false
+    let a = c.before.before.before.before.before.before.before.args in
+    c.refusal2.ensures
+    ∙ loads_done a.frame a.ports a.list.now a.length _ c.before.before.before.before.before.first-overloaded-input.ensures c.before.before.before.before.if1.false _ c.before.before.before.first-overloaded-output.ensures c.before.before.if2.false c.before.if3.false
 
 pub load_answer_spec : {M : Type 1} → statement M
 load_answer_spec =
@@ -75,5 +64,5 @@ load_answer_spec =
     mul_if3
     refusal_requires
     returns_3
-    done_requires
+    refusal_requires_2
     returns_4)

@@ -1,6 +1,6 @@
 -- `cycles::cycle` meets its contract: that the answer is done says what taking the messages asks.
 use native.Mathlib.Omega.{arith}
-use Rattle.shore.specs.Cycle.{network}
+use Rattle.cycles.specs.Cycle.{network}
 use Rattle.cycles.proofs.Outcomes.{cycle_sized, cycle_refused, cycled}
 use borrow.Author.Rules.{rules}
 use Rattle.cycles.proofs.cycle.Statement.{statement}
@@ -11,19 +11,16 @@ cycle_answer_requires c κs = search rules
 
 returns : tie.Need-returns
 returns c =
-    let b = c.before.before in
-    let a = b.before.before.before.before.before.before.before.args in
-    let w = network a.windows.now a.sizes.now a.sets.now in
-    cycle_refused w a.ready.now a.taken.now a.loads.now b.cycle-answer.ensures c.if1.true
+    let a = c.before.before.before.before.before.before.before.before.before.args in
+    let w = network a.windows.now a.sizes.now a.paths.now in
+    cycle_refused w a.ready.now a.taken.now a.loads.now c.before.before.cycle-answer.ensures c.if1.true
 
 take_ready_requires : tie.Need-take-ready-requires
 take_ready_requires c κs =
-    let b = c.before.before.before.before in
-    let a = b.before.before.before.before.before.before.before.args in
-    let w = network a.windows.now a.sizes.now a.sets.now in
-    let s = cycle_sized w a.ready.now a.taken.now a.loads.now b.cycle-answer.ensures c.before.before.if1.false in
-    let lists = s.0.network_sized in
-    (lists.few_links, (lists.as_many_sets, (omega (arith, s.0.as_many_ready), (s.1.0, s.1.1))))
+    let a = c.before.before.before.before.before.before.before.before.before.before.before.args in
+    let w = network a.windows.now a.sizes.now a.paths.now in
+    let s = cycle_sized w a.ready.now a.taken.now a.loads.now c.before.before.before.before.cycle-answer.ensures c.before.before.if1.false in
+    (s.few_links, (s.as_many_sets, (omega (arith, s.as_many_ready), (s.taken_room, s.load_room))))
 
 same_length : tie.Need-same-length
 same_length c = search rules
@@ -33,13 +30,11 @@ same_length_2 c = search rules
 
 returns_2 : tie.Need-returns-2
 returns_2 c =
-    let took = c.before.before.before.before in
-    let taken = took.take-ready in
-    let b = took.before.before.before.before.before in
-    let a = b.before.before.before.before.before.before.before.args in
-    let w = network a.windows.now a.sizes.now a.sets.now in
-    cycled w a.ready.now a.taken.now a.loads.now b.cycle-answer.ensures
-    taken.new.1.1.1.1.0 taken.new.1.1.1.1.1.0 took.before.before.before.if1.false taken.ensures.0 taken.ensures.1
+    let took = c.before.before.before.before.take-ready in
+    let a = c.before.before.before.before.before.before.before.before.before.before.before.before.before.before.before.before.args in
+    let w = network a.windows.now a.sizes.now a.paths.now in
+    cycled w a.ready.now a.taken.now a.loads.now c.before.before.before.before.before.before.before.before.before.cycle-answer.ensures
+    took.new.1.1.1.1.0 took.new.1.1.1.1.1.0 c.before.before.before.before.before.before.before.if1.false took.ensures.0 took.ensures.1
 
 pub cycle_spec : {M : Type 1} → statement M
 cycle_spec =

@@ -1,18 +1,17 @@
--- `flows::number_of` meets its contract: the place is counted only for a flow that the list could have.
-use Prim.Native.Nat.{◌+◌, ◌-◌, ◌*◌}
+-- `flows::number_of` meets its contract.
+use mathlib.Core.Path.{◌∙◌, ap}
+use mathlib.Core.Logic.{⊎_elim}
+use Prim.Native.Nat.{ℕ}
+use lib.ListN.{get_or}
 use mathlib.Core.Path.{sym}
 use native.Mathlib.Omega.{arith}
+use lib.ListN.{get_or-eq_default}
 use borrow.Author.Rules.{rules}
-use Rattle.flows.specs.Flows.{per_flow}
-use Rattle.flows.proofs.Accessors.{number_at, number_none}
 use Rattle.flows.proofs.number_of.Statement.{statement}
 use Rattle.flows.proofs.number_of.Tie as tie
 
 returns : tie.Need-returns
-returns c = let a = c.before.args in sym (number_none a.list.now a.flow a.place (λ l. absurd (omega arith)))
-
-returns_2 : tie.Need-returns-2
-returns_2 c = let a = c.before.before.args in sym (number_none a.list.now a.flow a.place (λ l. omega arith))
+returns c = sym (get_or-eq_default c.before.before.args.list.now 0 (omega arith))
 
 sub_at : tie.Need-overflow-sub-at
 sub_at c = search rules
@@ -23,36 +22,37 @@ mul_at c = search rules
 add_at : tie.Need-overflow-add-at
 add_at c = search rules
 
-mul_result : tie.Need-overflow-mul-result
-mul_result c = search rules
+mul_wide : tie.Need-overflow-mul-wide
+mul_wide c = search rules
 
-shared_slice_read_result : tie.Need-shared-slice-read-result
-shared_slice_read_result c = search rules
+shared_slice_read_wide : tie.Need-shared-slice-read-wide
+shared_slice_read_wide c = search rules
 
-cast_result : tie.Need-overflow-cast-result
-cast_result c =
-    let a = c.before.before.before.before.args in
-    omega (arith, c.shared-slice-known.given (per_flow * (a.flow - 1) + a.place))
+wide_requires : tie.Need-wide-requires
+wide_requires c κs = search rules
+
+returns_2 : tie.Need-returns-2
+returns_2 c =
+    c.wide.ensures
+    ∙ ap (λ (n : ℕ). get_or c.before.before.before.before.before.before.before.args.list.now n 0)
+    (⊎_elim (λ w. omega arith) (λ w. omega arith) c.before.before.before.before.if2.branch)
 
 returns_3 : tie.Need-returns-3
 returns_3 c =
-    let a = c.before.before.before.before.args in
-    sym (number_at a.list.now a.flow a.place (omega arith))
-
-returns_4 : tie.Need-returns-4
-returns_4 c = let a = c.before.before.before.args in sym (number_none a.list.now a.flow a.place (λ l. omega arith))
+    sym
+    (get_or-eq_default c.before.before.before.before.args.list.now 0
+    (⊎_elim (λ w. omega arith) (λ w. omega arith) c.before.if2.branch))
 
 pub number_of_spec : {M : Type 1} → statement M
 number_of_spec =
     tie.close
     (tie.spec
     returns
-    returns_2
     sub_at
     mul_at
     add_at
-    mul_result
-    shared_slice_read_result
-    cast_result
-    returns_3
-    returns_4)
+    mul_wide
+    shared_slice_read_wide
+    wide_requires
+    returns_2
+    returns_3)

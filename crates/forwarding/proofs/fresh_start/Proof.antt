@@ -25,8 +25,7 @@ returns_2 : tie.Need-returns-2
 returns_2 c =
     let b = c.before.before.before.before in
     let a = b.before.before.before.before.before.args in
-    started a.running a.frame a.ports a.waiting.now b.before.before.fresh-start-answer.ensures
-    b.if1.false c.before.before.clear.ensures
+    started a.running a.frame a.ports a.waiting.now b.before.before.fresh-start-answer.ensures b.if1.false c.before.before.clear.ensures
 
 pub fresh_start_spec : {M : Type 1} → statement M
 fresh_start_spec =

@@ -41,8 +41,7 @@ returns_2 c =
     let b = c.before.before.before.before.before.before.before.before in
     let a = b.before.before.before.before.before.before.before.args in
     let serve = c.before.before.before.before.before.serve.ensures in
-    slot_served a.running a.table.now a.waiting.now a.sent.now b.before.before.slot-answer.ensures
-    b.if1.false c.advance.ensures serve.0 serve.1
+    slot_served a.running a.table.now a.waiting.now a.sent.now b.before.before.slot-answer.ensures b.if1.false c.advance.ensures serve.0 serve.1
 
 pub slot_spec : {M : Type 1} → statement M
 slot_spec =

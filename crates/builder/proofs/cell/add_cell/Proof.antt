@@ -32,24 +32,14 @@ input_of_requires c κs = search rules
 free_of_input_requires : tie.Need-free-of-input-requires
 free_of_input_requires c κs =
     let b = c.before.before.before.before.before.before.before.before.before in
-    let w = b.requires.0.ports.inputs b.args.flow b.requires.0.flow in
-    (b.requires.1, subst (λ (i : ℕ). Within 1 b.args.ports i) (sym c.Input-of.ensures) w)
+    (b.requires.1, subst (λ (i : ℕ). Within 1 b.args.ports i) (sym c.Input-of.ensures) (b.requires.0.ports.inputs b.args.flow b.requires.0.flow))
 
 output_side_requires : tie.Need-output-side-requires
 output_side_requires c κs =
-    let q = c.before.before.before in
-    let o = q.before.before.before.before.before.before in
-    let b = o.before.before.before.before in
-    let w = b.requires.0.ports.outputs b.args.flow b.requires.0.flow in (
-      record {
-        table = b.requires.0.table;
-        first_in = omega (arith, c.before.before.if1.true, c.before.if2.true);
-        second_in = omega (arith, c.before.before.if1.true, c.before.if2.true);
-      },
-      record {
-        row_in = omega (arith, o.output-of.ensures, w.at_least, w.at_most);
-        not_seen = no_mark max_ports (o.output-of.result - 1);
-      },
+    let b = c.before.before.before.before.before.before.before.before.before.before.before.before.before in
+    let o = b.requires.0.ports.outputs b.args.flow b.requires.0.flow in (
+      record { table = b.requires.0.table; first_in = omega (arith, c.before.before.if1.true, c.before.if2.true); second_in = omega (arith, c.before.before.if1.true, c.before.if2.true) },
+      record { row_in = omega (arith, c.before.before.before.before.before.before.before.before.before.output-of.ensures, o.at_least, o.at_most); not_seen = no_mark max_ports (c.before.before.before.before.before.before.before.before.before.output-of.result - 1) },
     )
 
 cast_table : tie.Need-overflow-cast-table
@@ -57,52 +47,31 @@ cast_table c = search rules
 
 mul_table : tie.Need-overflow-mul-table
 mul_table c =
-    let q = c.before.before.before.before.before.before in
-    let o = q.before.before.before.before.before.before in
-    let b = o.before.before.before.before in
-    let w = b.requires.0.ports.outputs b.args.flow b.requires.0.flow in
-    omega (arith, row_within b.requires.0.table (o.output-of.result - 1) (omega (arith, o.output-of.ensures, w.at_least, w.at_most)))
+    let b = c.before.before.before.before.before.before.before.before.before.before.before.before.before.before.before.before in
+    let o = b.requires.0.ports.outputs b.args.flow b.requires.0.flow in
+    omega (arith, row_within b.requires.0.table (c.before.before.before.before.before.before.before.before.before.before.before.before.output-of.result - 1) (omega (arith, c.before.before.before.before.before.before.before.before.before.before.before.before.output-of.ensures, o.at_least, o.at_most)), c.before.before.before.before.before.if1.true, c.before.before.before.before.if2.true)
 
 add_table : tie.Need-overflow-add-table
 add_table c =
-    let t = c.before.before.before.before in
-    let q = t.before.before in
-    let o = q.before.before.before.before.before.before in
-    let b = o.before.before.before.before in
-    let w = b.requires.0.ports.outputs b.args.flow b.requires.0.flow in
-    let row = row_within b.requires.0.table (o.output-of.result - 1) (omega (arith, o.output-of.ensures, w.at_least, w.at_most)) in
-    omega (arith, row, t.if2.true)
+    let b = c.before.before.before.before.before.before.before.before.before.before.before.before.before.before.before.before in
+    let o = b.requires.0.ports.outputs b.args.flow b.requires.0.flow in
+    omega (arith, row_within b.requires.0.table (c.before.before.before.before.before.before.before.before.before.before.before.before.output-of.result - 1) (omega (arith, c.before.before.before.before.before.before.before.before.before.before.before.before.output-of.ensures, o.at_least, o.at_most)), c.before.before.before.before.before.if1.true, c.before.before.before.before.if2.true)
 
 slice_write_table : tie.Need-slice-write-table
 slice_write_table c =
-    let r = c.before.before in
-    let t = r.before.before in
-    let q = t.before.before in
-    let o = q.before.before.before.before.before.before in
-    let b = o.before.before.before.before in
-    let w = b.requires.0.ports.outputs b.args.flow b.requires.0.flow in
-    let row = row_within b.requires.0.table (o.output-of.result - 1) (omega (arith, o.output-of.ensures, w.at_least, w.at_most)) in
-    omega (arith, row, t.if2.true, r.output-side.auto.1.1.1.0)
+    let b = c.before.before.before.before.before.before.before.before.before.before.before.before.before.before.before.before in
+    let o = b.requires.0.ports.outputs b.args.flow b.requires.0.flow in
+    omega (arith, row_within b.requires.0.table (c.before.before.before.before.before.before.before.before.before.before.before.before.output-of.result - 1) (omega (arith, c.before.before.before.before.before.before.before.before.before.before.before.before.output-of.ensures, o.at_least, o.at_most)), c.before.before.before.before.before.if1.true, c.before.before.before.before.if2.true, c.before.before.output-side.auto.1.1.1.0)
 
 mark_slot_requires : tie.Need-mark-slot-requires
 mark_slot_requires c κs =
-    let r = c.before.before.before.before in
-    let t = r.before.before.before in
-    let o = t.before.before.before.before.before.before.before in
-    let b = o.before.before.before.before in
-    (holds_same _ b.requires.0.table (simp length-set r.output-side.auto.1.1.1.0), b.requires.1.room, t.if1.true)
+    let b = c.before.before.before.before.before.before.before.before.before.before.before.before.before.before.before.before.before.before in
+    (holds_same _ b.requires.0.table (simp length-set c.before.before.before.before.output-side.auto.1.1.1.0), b.requires.1.room, c.before.before.before.before.before.before.before.if1.true)
 
 mark_slot_requires_2 : tie.Need-mark-slot-requires-2
 mark_slot_requires_2 c κs =
-    let m = c.before.before.before.before in
-    let r = m.before.before.before.before.before in
-    let t = r.before.before in
-    let o = t.before.before.before.before.before.before.before.before in
-    let b = o.before.before.before.before in (
-      holds_same _ b.requires.0.table (simp length-set r.output-side.auto.1.1.1.0),
-      holds_same _ b.requires.1.room m.mark-slot.auto.1.1.1.1.0,
-      omega (arith, t.before.if1.true, t.if2.true),
-    )
+    let b = c.before.before.before.before.before.before.before.before.before.before.before.before.before.before.before.before.before.before.before.before.before.before.before in
+    (holds_same _ b.requires.0.table (simp length-set c.before.before.before.before.before.before.before.before.before.output-side.auto.1.1.1.0), holds_same _ b.requires.1.room c.before.before.before.before.mark-slot.auto.1.1.1.1.0, omega (arith, c.before.before.before.before.before.before.before.before.before.before.before.before.if1.true, c.before.before.before.before.before.before.before.before.before.before.before.if2.true))
 
 same_length : tie.Need-same-length
 same_length c = search rules
@@ -112,28 +81,19 @@ same_length_2 c = search rules
 
 returns : tie.Need-returns
 returns c =
-    let n = c.before.before in
-    let m = n.before.before.before.before.before in
-    let r = m.before.before.before.before.before in
-    let t = r.before.before in
-    let q = t.before.before in
-    let i = q.before in
-    let f = i.before.before.before in
-    let o = f.before.before in
-    let b = o.before.before.before.before in
-    let a = b.args in
-    let first = f.free_of_row.result in
-    let second = q.free_of_input.result in
-    let run = r.output-side.new.1.1.1.0 in (
-      added_by_run a.frame a.ports a.list.now a.flow a.table.now b.requires.0 o.output-of.result i.Input-of.result first second
-          o.output-of.ensures f.free_of_row.ensures i.Input-of.ensures q.free_of_input.ensures
-          run _ t.before.if1.true t.if2.true r.output-side.ensures refl,
-      marked_again a.frame a.ports a.list.now a.table.now _ a.used.now
-          m.mark-slot.new.1.1.1.1.0 n.mark-slot2.new.1.1.1.1.0 first second b.requires.1
-          (added_elsewhere a.frame a.ports a.list.now a.flow a.table.now b.requires.0 o.output-of.result i.Input-of.result first second
-          o.output-of.ensures f.free_of_row.ensures i.Input-of.ensures q.free_of_input.ensures
-          run _ t.before.if1.true t.if2.true r.output-side.ensures refl)
-          m.mark-slot.ensures n.mark-slot2.ensures (n.mark-slot2.auto.1.1.1.1.0 ∙ m.mark-slot.auto.1.1.1.1.0),
+    let b = c.before.before.before.before.before.before.before.before.before.before.before.before.before.before.before.before.before.before.before.before.before.before.before.before.before.before in
+    let a = b.args in (
+      added_by_run a.frame a.ports a.list.now a.flow a.table.now b.requires.0
+          c.before.before.before.before.before.before.before.before.before.before.before.before.before.before.before.before.before.before.before.before.before.before.output-of.result c.before.before.before.before.before.before.before.before.before.before.before.before.before.before.before.before.before.Input-of.result c.before.before.before.before.before.before.before.before.before.before.before.before.before.before.before.before.before.before.before.before.free_of_row.result c.before.before.before.before.before.before.before.before.before.before.before.before.before.before.before.before.free_of_input.result
+          c.before.before.before.before.before.before.before.before.before.before.before.before.before.before.before.before.before.before.before.before.before.before.output-of.ensures c.before.before.before.before.before.before.before.before.before.before.before.before.before.before.before.before.before.before.before.before.free_of_row.ensures c.before.before.before.before.before.before.before.before.before.before.before.before.before.before.before.before.before.Input-of.ensures c.before.before.before.before.before.before.before.before.before.before.before.before.before.before.before.before.free_of_input.ensures
+          c.before.before.before.before.before.before.before.before.before.before.before.before.output-side.new.1.1.1.0 _ c.before.before.before.before.before.before.before.before.before.before.before.before.before.before.before.if1.true c.before.before.before.before.before.before.before.before.before.before.before.before.before.before.if2.true c.before.before.before.before.before.before.before.before.before.before.before.before.output-side.ensures refl,
+      marked_again a.frame a.ports a.list.now a.table.now _ a.used.now c.before.before.before.before.before.before.before.mark-slot.new.1.1.1.1.0 c.before.before.mark-slot2.new.1.1.1.1.0
+          c.before.before.before.before.before.before.before.before.before.before.before.before.before.before.before.before.before.before.before.before.free_of_row.result c.before.before.before.before.before.before.before.before.before.before.before.before.before.before.before.before.free_of_input.result b.requires.1
+          (added_elsewhere a.frame a.ports a.list.now a.flow a.table.now b.requires.0
+          c.before.before.before.before.before.before.before.before.before.before.before.before.before.before.before.before.before.before.before.before.before.before.output-of.result c.before.before.before.before.before.before.before.before.before.before.before.before.before.before.before.before.before.Input-of.result c.before.before.before.before.before.before.before.before.before.before.before.before.before.before.before.before.before.before.before.before.free_of_row.result c.before.before.before.before.before.before.before.before.before.before.before.before.before.before.before.before.free_of_input.result
+          c.before.before.before.before.before.before.before.before.before.before.before.before.before.before.before.before.before.before.before.before.before.before.output-of.ensures c.before.before.before.before.before.before.before.before.before.before.before.before.before.before.before.before.before.before.before.before.free_of_row.ensures c.before.before.before.before.before.before.before.before.before.before.before.before.before.before.before.before.before.Input-of.ensures c.before.before.before.before.before.before.before.before.before.before.before.before.before.before.before.before.free_of_input.ensures
+          c.before.before.before.before.before.before.before.before.before.before.before.before.output-side.new.1.1.1.0 _ c.before.before.before.before.before.before.before.before.before.before.before.before.before.before.before.if1.true c.before.before.before.before.before.before.before.before.before.before.before.before.before.before.if2.true c.before.before.before.before.before.before.before.before.before.before.before.before.output-side.ensures refl)
+          c.before.before.before.before.before.before.before.mark-slot.ensures c.before.before.mark-slot2.ensures (c.before.before.mark-slot2.auto.1.1.1.1.0 ∙ c.before.before.before.before.before.before.before.mark-slot.auto.1.1.1.1.0),
     )
 
 same_length_3 : tie.Need-same-length-3
@@ -144,15 +104,11 @@ same_length_4 c = search rules
 
 returns_2 : tie.Need-returns-2
 returns_2 c =
-    let q = c.before.before in
-    let i = q.before in
-    let f = i.before.before.before in
-    let o = f.before.before in
-    let b = o.before.before.before.before in
+    let b = c.before.before.before.before.before.before.before.before.before.before.before.before in
     let a = b.args in (
       input_full a.frame a.ports a.list.now a.flow a.table.now b.requires.0
-          o.output-of.result i.Input-of.result f.free_of_row.result q.free_of_input.result
-          o.output-of.ensures f.free_of_row.ensures i.Input-of.ensures q.free_of_input.ensures c.if2.false,
+          c.before.before.before.before.before.before.before.before.output-of.result c.before.before.before.Input-of.result c.before.before.before.before.before.before.free_of_row.result c.before.before.free_of_input.result
+          c.before.before.before.before.before.before.before.before.output-of.ensures c.before.before.before.before.before.before.free_of_row.ensures c.before.before.before.Input-of.ensures c.before.before.free_of_input.ensures c.if2.false,
       b.requires.1,
     )
 
@@ -164,15 +120,11 @@ same_length_6 c = search rules
 
 returns_3 : tie.Need-returns-3
 returns_3 c =
-    let q = c.before in
-    let i = q.before in
-    let f = i.before.before.before in
-    let o = f.before.before in
-    let b = o.before.before.before.before in
+    let b = c.before.before.before.before.before.before.before.before.before.before.before in
     let a = b.args in (
       row_full a.frame a.ports a.list.now a.flow a.table.now b.requires.0
-          o.output-of.result i.Input-of.result f.free_of_row.result q.free_of_input.result
-          o.output-of.ensures f.free_of_row.ensures i.Input-of.ensures q.free_of_input.ensures c.if1.false,
+          c.before.before.before.before.before.before.before.output-of.result c.before.before.Input-of.result c.before.before.before.before.before.free_of_row.result c.before.free_of_input.result
+          c.before.before.before.before.before.before.before.output-of.ensures c.before.before.before.before.before.free_of_row.ensures c.before.before.Input-of.ensures c.before.free_of_input.ensures c.if1.false,
       b.requires.1,
     )
 

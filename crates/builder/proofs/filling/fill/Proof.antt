@@ -11,8 +11,7 @@ use Rattle.builder.proofs.filling.fill.Tie as tie
 
 abbrev invariant_loop : tie.invariant_loop
 invariant_loop frame ports list table₀ used₀ last flow₀ table used flow =
-    (1 ≤ flow) × (flow ≤ suc last) × FilledTo frame ports list flow 0 table₀ table used
-    × (length table ≡ length table₀) × (length used ≡ length used₀) × (last ≡ flow_count list)
+    (1 ≤ flow) × (flow ≤ suc last) × FilledTo frame ports list flow 0 table₀ table used × (length table ≡ length table₀) × (length used ≡ length used₀) × (last ≡ flow_count list)
 
 abbrev decreases_loop : tie.decreases_loop
 decreases_loop frame ports list table₀ used₀ last flow₀ table used flow = suc last - flow
@@ -21,41 +20,30 @@ flow_count_requires : tie.Need-flow-count-requires invariant_loop decreases_loop
 flow_count_requires c κs = tt
 
 loop_holds : tie.Need-loop-init invariant_loop decreases_loop
-loop_holds c =
-    let start = c.before.before.before.before in
-    (omega arith, omega arith, record { so_far = start.requires.1; marked = start.requires.2; beyond = refl }, refl, refl, c.flow-count.ensures)
+loop_holds c = (omega arith, omega arith, record { so_far = c.before.before.before.before.requires.1; marked = c.before.before.before.before.requires.2; beyond = refl }, refl, refl, c.flow-count.ensures)
 
 fill_flow_requires : tie.Need-fill-flow-requires invariant_loop decreases_loop
 fill_flow_requires c κs =
-    let at_test = c.before.before in
-    let at_loop = at_test.before in
-    let b = at_loop.before.before.before.before.before in
-    let i = at_loop.loop.invariant in
-    (may_fill_same b.requires.0 i.3, record { at_least = i.0; at_most = omega (arith, at_test.loop-test.true, i.5) }, i.2.so_far, i.2.marked)
+    let b = c.before.before.before.before.before.before.before.before in
+    let i = c.before.before.before.loop.invariant in
+    (may_fill_same b.requires.0 i.3, record { at_least = i.0; at_most = omega (arith, c.before.before.loop-test.true, i.5) }, i.2.so_far, i.2.marked)
 
 add_flow : tie.Need-overflow-add-flow invariant_loop decreases_loop
-add_flow c =
-    let at_test = c.before.before.before.before.before.before.before in
-    let at_loop = at_test.before in
-    omega (arith, at_loop.loop.invariant.5, at_loop.before.before.before.before.before.requires.0.good.not_too_many, at_test.loop-test.true)
+add_flow c = omega (arith, c.before.before.before.before.before.before.before.before.loop.invariant.5, c.before.before.before.before.before.before.before.before.before.before.before.before.before.requires.0.good.not_too_many, c.before.before.before.before.before.before.before.loop-test.true)
 
 loop_less : tie.Need-loop-smaller invariant_loop decreases_loop
 loop_less c = omega arith
 
 loop_again : tie.Need-loop-preserved invariant_loop decreases_loop
 loop_again c =
-    let at_fill_flow = c.before.before.before.before in
-    let at_test = at_fill_flow.before.before.before in
-    let at_loop = at_test.before in
-    let a = at_loop.before.before.before.before.before.args in
-    let i = at_loop.loop.invariant in (
+    let a = c.before.before.before.before.before.before.before.before.before.before.before.before.before.args in
+    let i = c.before.before.before.before.before.before.before.before.loop.invariant in (
       omega (arith, i.0),
-      omega (arith, at_test.loop-test.true),
-      one_flow_more a.frame a.ports a.list.now at_loop.loop.flow
-          a.table.now at_loop.loop.table at_fill_flow.fill-flow.new.1.1.1.0
-          at_loop.loop.used at_fill_flow.fill-flow.new.1.1.1.1.0 i.2 at_fill_flow.fill-flow.ensures,
-      at_fill_flow.fill-flow.auto.1.1.1.0 ∙ i.3,
-      at_fill_flow.fill-flow.auto.1.1.1.1.0 ∙ i.4,
+      omega (arith, c.before.before.before.before.before.before.before.loop-test.true),
+      one_flow_more a.frame a.ports a.list.now c.before.before.before.before.before.before.before.before.loop.flow a.table.now c.before.before.before.before.before.before.before.before.loop.table c.before.before.before.before.fill-flow.new.1.1.1.0
+          c.before.before.before.before.before.before.before.before.loop.used c.before.before.before.before.fill-flow.new.1.1.1.1.0 i.2 c.before.before.before.before.fill-flow.ensures,
+      c.before.before.before.before.fill-flow.auto.1.1.1.0 ∙ i.3,
+      c.before.before.before.before.fill-flow.auto.1.1.1.1.0 ∙ i.4,
       i.5,
     )
 

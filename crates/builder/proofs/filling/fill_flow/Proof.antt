@@ -11,8 +11,7 @@ use Rattle.builder.proofs.filling.fill_flow.Tie as tie
 
 abbrev invariant_loop : tie.invariant_loop
 invariant_loop frame ports list table₀ used₀ flow cells placed₀ table used placed =
-    FilledTo frame ports list flow placed table₀ table used × (placed ≤ cells)
-    × (length table ≡ length table₀) × (length used ≡ length used₀) × (cells ≡ cells_of list flow)
+    FilledTo frame ports list flow placed table₀ table used × (placed ≤ cells) × (length table ≡ length table₀) × (length used ≡ length used₀) × (cells ≡ cells_of list flow)
 
 abbrev decreases_loop : tie.decreases_loop
 decreases_loop frame ports list table₀ used₀ flow cells placed₀ table used placed = cells - placed
@@ -39,18 +38,15 @@ loop_less c = omega arith
 
 loop_again : tie.Need-loop-preserved invariant_loop decreases_loop
 loop_again c =
-    let at_add_cell = c.before.before.before.before in
-    let at_loop = at_add_cell.before.before.before.before in
-    let b = at_loop.before.before.before.before.before in
+    let b = c.before.before.before.before.before.before.before.before.before.before.before.before.before in
     let a = b.args in
-    let i = at_loop.loop.invariant in (
-      one_more a.frame a.ports a.list.now a.flow at_loop.loop.placed
-          a.table.now at_loop.loop.table at_add_cell.add-cell.new.1.1.1.0
-          at_loop.loop.used at_add_cell.add-cell.new.1.1.1.1.0
-          b.requires.0 b.requires.1 (omega (arith, i.4)) i.0 at_add_cell.add-cell.ensures.0 at_add_cell.add-cell.ensures.1,
+    let i = c.before.before.before.before.before.before.before.before.loop.invariant in (
+      one_more a.frame a.ports a.list.now a.flow c.before.before.before.before.before.before.before.before.loop.placed a.table.now c.before.before.before.before.before.before.before.before.loop.table c.before.before.before.before.add-cell.new.1.1.1.0
+          c.before.before.before.before.before.before.before.before.loop.used c.before.before.before.before.add-cell.new.1.1.1.1.0
+          b.requires.0 b.requires.1 (omega (arith, i.4)) i.0 c.before.before.before.before.add-cell.ensures.0 c.before.before.before.before.add-cell.ensures.1,
       omega arith,
-      at_add_cell.add-cell.auto.1.1.1.0 ∙ i.2,
-      at_add_cell.add-cell.auto.1.1.1.1.0 ∙ i.3,
+      c.before.before.before.before.add-cell.auto.1.1.1.0 ∙ i.2,
+      c.before.before.before.before.add-cell.auto.1.1.1.1.0 ∙ i.3,
       i.4,
     )
 
@@ -65,8 +61,7 @@ returns c =
     let b = c.before.before.before.before.before.before in
     let a = b.args in
     let i = c.before.loop.invariant in
-    flow_filled a.frame a.ports a.list.now a.flow c.before.loop.placed a.table.now
-    c.before.loop.table c.before.loop.used b.requires.1 (omega (arith, i.4)) i.0
+    flow_filled a.frame a.ports a.list.now a.flow c.before.loop.placed a.table.now c.before.loop.table c.before.loop.used b.requires.1 (omega (arith, i.4)) i.0
 
 pub fill_flow_spec : {M : Type 1} → statement M
 fill_flow_spec =

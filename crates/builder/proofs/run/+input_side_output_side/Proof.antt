@@ -1,6 +1,5 @@
 -- The proof of the cycle of calls {input_side, output_side}. The measure is twice the rows not yet seen, and one more on the input side.
 use native.Mathlib.Omega.{arith}
-use mir.Facts.{Fits-widen}
 use mathlib.Core.Path.{refl, ◌∙◌}
 use Rattle.builder.proofs.Places.{holds_same, row_within}
 use Rattle.builder.specs.Exchange.{unseen}
@@ -17,7 +16,7 @@ use Rattle.builder.proofs.run.output_side.Kinds as output-side-kinds
 use Rattle.builder.proofs.run.+input_side_output_side.Lts-output_side as output-side-lts
 use Rattle.builder.proofs.run.row_holding.Reads as row-holding-reads
 use Rattle.builder.proofs.run.swap_places.Reads as swap-places-reads
-use Rattle.flows.proofs.input_of.Reads as input-of-reads
+use Rattle.builder.proofs.slots.input_at.Reads as input-at-reads
 use Rattle.builder.proofs.run.+input_side_output_side.{statement}
 use Rattle.builder.proofs.run.+input_side_output_side.Tie.{close}
 
@@ -49,7 +48,7 @@ input_side_calls t = (row-holding-reads.Asked, row-holding-reads.Learnt, output_
 
 abbrev output_side_calls : ℕ → output-side-lts.Claims
 output_side_calls t =
-    (swap-places-reads.Asked, swap-places-reads.Learnt, input-of-reads.Asked, input-of-reads.Learnt, input_side_below t, input-side.Post)
+    (swap-places-reads.Asked, swap-places-reads.Learnt, input-at-reads.Asked, input-at-reads.Learnt, input_side_below t, input-side.Post)
 
 input_side_row_holding_requires : (t : ℕ) → input-side-lts.Need-row-holding-requires (input_side_calls t) (input_side_at t) input-side.Post
 input_side_row_holding_requires t c κs =
@@ -58,14 +57,12 @@ input_side_row_holding_requires t c κs =
 
 input_side_output_side_requires : (t : ℕ) → input-side-lts.Need-output-side-requires (input_side_calls t) (input_side_at t) input-side.Post
 input_side_output_side_requires t c κs =
-    let at_row_holding = c.before.before in
-    let b = at_row_holding.before.before.before.before in
+    let b = c.before.before.before.before.before.before in
     let a = b.args in (
       omega (arith, b.requires.0),
       (
         record { table = b.requires.1.table; first_in = omega (arith, b.requires.1); second_in = omega (arith, b.requires.1) },
-        row_next a.frame a.ports a.list.now a.first a.second a.marks
-            a.table.now a.input _ at_row_holding.row-holding.ensures c.before.if1.true,
+        row_next a.frame a.ports a.list.now a.first a.second a.marks a.table.now a.input _ c.before.before.row-holding.ensures c.before.if1.true,
       ),
     )
 
@@ -74,12 +71,9 @@ input_side_same_length t c = c.before.before.output-side.auto.1.1.1.0
 
 input_side_returns : (t : ℕ) → input-side-lts.Need-returns (input_side_calls t) (input_side_at t) input-side.Post
 input_side_returns t c =
-    let at_output_side = c.before.before in
-    let at_if1 = at_output_side.before.before in
-    let at_row_holding = at_if1.before in
-    let a = at_row_holding.before.before.before.before.args in
-    led_on a.frame a.ports a.list.now a.first a.second a.marks a.table.now a.input _ at_row_holding.row-holding.ensures
-    at_output_side.output-side.new.1.1.1.0 at_if1.if1.true at_output_side.output-side.ensures
+    let a = c.before.before.before.before.before.before.before.before.before.args in
+    led_on a.frame a.ports a.list.now a.first a.second a.marks a.table.now a.input _ c.before.before.before.before.before.row-holding.ensures
+    c.before.before.output-side.new.1.1.1.0 c.before.before.before.before.if1.true c.before.before.output-side.ensures
 
 input_side_same_length_2 : (t : ℕ) → input-side-lts.Need-same-length-2 (input_side_calls t) (input_side_at t) input-side.Post
 input_side_same_length_2 t c = refl
@@ -87,8 +81,7 @@ input_side_same_length_2 t c = refl
 input_side_returns_2 : (t : ℕ) → input-side-lts.Need-returns-2 (input_side_calls t) (input_side_at t) input-side.Post
 input_side_returns_2 t c =
     let a = c.before.before.before.before.before.args in
-    led_nowhere a.frame a.ports a.list.now a.first a.second a.marks
-    a.table.now a.input _ c.before.row-holding.ensures c.if1.false
+    led_nowhere a.frame a.ports a.list.now a.first a.second a.marks a.table.now a.input _ c.before.row-holding.ensures c.if1.false
 
 output_side_mul_start : (t : ℕ) → output-side-lts.Need-overflow-mul-start (output_side_calls t) (output_side_at t) output-side.Post
 output_side_mul_start t c =
@@ -110,78 +103,59 @@ output_side_swap_places_requires t c κs =
     let b = c.before.before.before in
     omega (arith, row_within b.requires.1.0.table b.args.row b.requires.1.1.row_in, b.requires.1.0)
 
-output_side_add_input_of : (t : ℕ) → output-side-lts.Need-overflow-add-input-of (output_side_calls t) (output_side_at t) output-side.Post
-output_side_add_input_of t c =
+output_side_add_input_at : (t : ℕ) → output-side-lts.Need-overflow-add-input-at (output_side_calls t) (output_side_at t) output-side.Post
+output_side_add_input_at t c =
     let b = c.before.before.before.before.before.before in
     omega (arith, row_within b.requires.1.0.table b.args.row b.requires.1.1.row_in, b.requires.1.0)
 
-output_side_slice_read_input_of : (t : ℕ) → output-side-lts.Need-slice-read-input-of (output_side_calls t) (output_side_at t) output-side.Post
-output_side_slice_read_input_of t c =
+output_side_slice_read_input_at : (t : ℕ) → output-side-lts.Need-slice-read-input-at (output_side_calls t) (output_side_at t) output-side.Post
+output_side_slice_read_input_at t c =
     let b = c.before.before.before.before.before.before.before in
     omega (arith, row_within b.requires.1.0.table b.args.row b.requires.1.1.row_in, b.requires.1.0, c.before.before.before.swap_places.auto.0)
 
-output_side_cast_input_of : (t : ℕ) → output-side-lts.Need-overflow-cast-input-of (output_side_calls t) (output_side_at t) output-side.Post
-output_side_cast_input_of t c = Fits-widen tt (c.slice-known3.given _)
-
-output_side_input_of_requires : (t : ℕ) → output-side-lts.Need-input-of-requires (output_side_calls t) (output_side_at t) output-side.Post
-output_side_input_of_requires t c κs = tt
+output_side_input_at_requires : (t : ℕ) → output-side-lts.Need-input-at-requires (output_side_calls t) (output_side_at t) output-side.Post
+output_side_input_at_requires t c κs = tt
 
 output_side_array_write_seen : (t : ℕ) → output-side-lts.Need-array-write-seen (output_side_calls t) (output_side_at t) output-side.Post
-output_side_array_write_seen t c =
-    let b = c.before.before.before.before.before.before.before.before.before in
-    omega (arith, b.requires.1.0.table.ports_in_range.at_most, b.requires.1.1.row_in)
+output_side_array_write_seen t c = let b = c.before.before.before.before.before.before.before.before.before in omega (arith, b.requires.1.0.table.ports_in_range.at_most, b.requires.1.1.row_in)
 
 output_side_input_side_requires : (t : ℕ) → output-side-lts.Need-input-side-requires (output_side_calls t) (output_side_at t) output-side.Post
 output_side_input_side_requires t c κs =
-    let at_swap_places = c.before.before.before.before.before.before in
-    let b = at_swap_places.before.before.before.before in
+    let b = c.before.before.before.before.before.before.before.before.before.before in
     let h = b.requires.1.0.table in (
       omega (
         arith,
         b.requires.0,
-        unseen_mark b.args.ports b.args.marks b.args.row b.requires.1.1.row_in
-            (omega (arith, b.well-formed.1.1.1.1.1.1.1.0.1.0.1, h.ports_in_range.at_most, b.requires.1.1.row_in)) b.requires.1.1.not_seen,
+        unseen_mark b.args.ports b.args.marks b.args.row b.requires.1.1.row_in (omega (arith, b.well-formed.1.1.1.1.1.1.1.0.1.0.1, h.ports_in_range.at_most, b.requires.1.1.row_in)) b.requires.1.1.not_seen,
       ),
       record {
-        table = holds_same _ h at_swap_places.swap_places.auto.0;
+        table = holds_same _ h c.before.before.before.before.before.before.swap_places.auto.0;
         first_in = b.requires.1.0.first_in;
         second_in = b.requires.1.0.second_in;
       },
     )
 
 output_side_same_length : (t : ℕ) → output-side-lts.Need-same-length (output_side_calls t) (output_side_at t) output-side.Post
-output_side_same_length t c =
-    let at_input_side = c.before.before in
-    at_input_side.input-side.auto.1.1.1.0 ∙ at_input_side.before.before.before.before.before.before.before.swap_places.auto.0
+output_side_same_length t c = c.before.before.input-side.auto.1.1.1.0 ∙ c.before.before.before.before.before.before.before.before.before.swap_places.auto.0
 
 output_side_returns : (t : ℕ) → output-side-lts.Need-returns (output_side_calls t) (output_side_at t) output-side.Post
 output_side_returns t c =
-    let at_input_side = c.before.before in
-    let at_if1 = at_input_side.before.before in
-    let at_input_of = at_if1.before in
-    let at_swap_places = at_input_of.before.before.before.before in
-    let b = at_swap_places.before.before.before.before in
+    let b = c.before.before.before.before.before.before.before.before.before.before.before.before.before in
     let a = b.args in
-    run_followed a.frame a.ports a.list.now a.first a.second a.row a.marks
-    a.table.now at_swap_places.swap_places.new.0 at_input_of.Input-of.result
-    b.requires.1.1.row_in (omega
-    (arith, b.well-formed.1.1.1.1.1.1.1.0.1.0.1, b.requires.1.0.table.ports_in_range.at_most, b.requires.1.1.row_in)) b.requires.1.1.not_seen
-    at_swap_places.swap_places.ensures at_input_of.Input-of.ensures
-    at_input_side.input-side.new.1.1.1.0 at_if1.if1.true at_input_side.input-side.ensures
+    run_followed a.frame a.ports a.list.now a.first a.second a.row a.marks a.table.now c.before.before.before.before.before.before.before.before.before.swap_places.new.0 c.before.before.before.before.before.input-at.result
+    b.requires.1.1.row_in (omega (arith, b.well-formed.1.1.1.1.1.1.1.0.1.0.1, b.requires.1.0.table.ports_in_range.at_most, b.requires.1.1.row_in)) b.requires.1.1.not_seen
+    c.before.before.before.before.before.before.before.before.before.swap_places.ensures c.before.before.before.before.before.input-at.ensures c.before.before.input-side.new.1.1.1.0 c.before.before.before.before.if1.true c.before.before.input-side.ensures
 
 output_side_same_length_2 : (t : ℕ) → output-side-lts.Need-same-length-2 (output_side_calls t) (output_side_at t) output-side.Post
 output_side_same_length_2 t c = c.before.before.before.before.before.swap_places.auto.0
 
 output_side_returns_2 : (t : ℕ) → output-side-lts.Need-returns-2 (output_side_calls t) (output_side_at t) output-side.Post
 output_side_returns_2 t c =
-    let at_swap_places = c.before.before.before.before.before in
-    let b = at_swap_places.before.before.before.before in
+    let b = c.before.before.before.before.before.before.before.before.before in
     let a = b.args in
-    run_ended a.frame a.ports a.list.now a.first a.second a.row a.marks
-    a.table.now at_swap_places.swap_places.new.0 c.before.Input-of.result
-    b.requires.1.1.row_in (omega
-    (arith, b.well-formed.1.1.1.1.1.1.1.0.1.0.1, b.requires.1.0.table.ports_in_range.at_most, b.requires.1.1.row_in)) b.requires.1.1.not_seen
-    at_swap_places.swap_places.ensures c.before.Input-of.ensures c.if1.false
+    run_ended a.frame a.ports a.list.now a.first a.second a.row a.marks a.table.now c.before.before.before.before.before.swap_places.new.0 c.before.input-at.result
+    b.requires.1.1.row_in (omega (arith, b.well-formed.1.1.1.1.1.1.1.0.1.0.1, b.requires.1.0.table.ports_in_range.at_most, b.requires.1.1.row_in)) b.requires.1.1.not_seen
+    c.before.before.before.before.before.swap_places.ensures c.before.input-at.ensures c.if1.false
 
 pub +input-side-output-side-spec : {M : Type 1} → statement M
 +input-side-output-side-spec = close μ_input_side μ_output_side (λ t. input-side-lts.spec (input_side_calls t)
@@ -200,10 +174,9 @@ pub +input-side-output-side-spec : {M : Type 1} → statement M
     (output_side_add_swap_places t)
     (output_side_add_swap_places_2 t)
     (output_side_swap_places_requires t)
-    (output_side_add_input_of t)
-    (output_side_slice_read_input_of t)
-    (output_side_cast_input_of t)
-    (output_side_input_of_requires t)
+    (output_side_add_input_at t)
+    (output_side_slice_read_input_at t)
+    (output_side_input_at_requires t)
     (output_side_array_write_seen t)
     (output_side_input_side_requires t)
     (output_side_same_length t)

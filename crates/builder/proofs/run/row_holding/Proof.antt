@@ -2,7 +2,6 @@
 use Prim.Native.Nat.{◌-◌}
 use mathlib.Core.Path.{sym, ◌∙◌}
 use native.Mathlib.Omega.{arith}
-use mir.Facts.{Fits-widen}
 use Rattle.answers.proofs.Lowest.{Searched, search_start, search_more, search_hit, search_end}
 use Rattle.tables.proofs.Places.{place_within}
 use mathlib.Core.Logic.{⊎_elim}
@@ -23,43 +22,30 @@ loop_holds c = search_start 0 _ _
 array_read_if1 : tie.Need-array-read-if1 invariant_loop decreases_loop
 array_read_if1 c = omega (arith, c.before.before.before.before.requires.0.ports_in_range.at_most)
 
-mul_input_of : tie.Need-overflow-mul-input-of invariant_loop decreases_loop
-mul_input_of c =
-    let at_loop = c.before.before in
-    let start = at_loop.before.before.before in
-    let pre = start.requires in
-    omega (arith, place_within pre.0 at_loop.loop.row start.args.slot c.before.loop-test.true pre.1)
+mul_input_at : tie.Need-overflow-mul-input-at invariant_loop decreases_loop
+mul_input_at c =
+    let pre = c.before.before.before.before.before.requires in
+    omega (arith, place_within pre.0 c.before.before.loop.row c.before.before.before.before.before.args.slot c.before.loop-test.true pre.1)
 
-add_input_of : tie.Need-overflow-add-input-of invariant_loop decreases_loop
-add_input_of c =
-    let at_loop = c.before.before in
-    let start = at_loop.before.before.before in
-    let pre = start.requires in
-    omega (arith, place_within pre.0 at_loop.loop.row start.args.slot c.before.loop-test.true pre.1)
+add_input_at : tie.Need-overflow-add-input-at invariant_loop decreases_loop
+add_input_at c =
+    let pre = c.before.before.before.before.before.requires in
+    omega (arith, place_within pre.0 c.before.before.loop.row c.before.before.before.before.before.args.slot c.before.loop-test.true pre.1)
 
-shared_slice_read_input_of : tie.Need-shared-slice-read-input-of invariant_loop decreases_loop
-shared_slice_read_input_of c =
-    let at_test = c.before.before in
-    let at_loop = at_test.before in
-    let start = at_loop.before.before.before in
-    let pre = start.requires in
-    place_within pre.0 at_loop.loop.row start.args.slot at_test.loop-test.true pre.1
+shared_slice_read_input_at : tie.Need-shared-slice-read-input-at invariant_loop decreases_loop
+shared_slice_read_input_at c =
+    let pre = c.before.before.before.before.before.before.requires in
+    place_within pre.0 c.before.before.before.loop.row c.before.before.before.before.before.before.args.slot c.before.before.loop-test.true pre.1
 
-cast_input_of : tie.Need-overflow-cast-input-of invariant_loop decreases_loop
-cast_input_of c = Fits-widen tt (c.shared-slice-known3.given _)
-
-input_of_requires : tie.Need-input-of-requires invariant_loop decreases_loop
-input_of_requires c κs = tt
+input_at_requires : tie.Need-input-at-requires invariant_loop decreases_loop
+input_at_requires c κs = tt
 
 returns : tie.Need-returns invariant_loop decreases_loop
 unfolding next_row
 returns c =
-    let at_if1 = c.before.before.before in
-    let at_loop = at_if1.before.before in
-    let a = at_loop.before.before.before.args in
-    search_hit at_loop.loop.invariant (omega arith)
-    (next_here a.frame a.list.now a.t7 a.slot a.input a.table.now
-    at_loop.loop.row at_if1.if1.true (sym c.before.Input-of.ensures ∙ c.if2.true))
+    let a = c.before.before.before.before.before.before.before.before.args in
+    search_hit c.before.before.before.before.before.loop.invariant (omega arith)
+    (next_here a.frame a.list.now a.t7 a.slot a.input a.table.now c.before.before.before.before.before.loop.row c.before.before.before.if1.true (sym c.before.input-at.ensures ∙ c.if2.true))
 
 add_row : tie.Need-overflow-add-row invariant_loop decreases_loop
 add_row c = omega arith
@@ -88,11 +74,10 @@ row_holding_spec =
     decreases_loop
     loop_holds
     array_read_if1
-    mul_input_of
-    add_input_of
-    shared_slice_read_input_of
-    cast_input_of
-    input_of_requires
+    mul_input_at
+    add_input_at
+    shared_slice_read_input_at
+    input_at_requires
     returns
     add_row
     loop_less

@@ -30,10 +30,8 @@ shared_slice_read_if1 c = omega arith
 returns : tie.Need-returns invariant_loop decreases_loop
 unfolding free_of_row
 returns c =
-    let at_loop = c.before.before.before in
-    let i = at_loop.loop.invariant in
-    search_hit i.1 (omega arith)
-    (eq-eqb _ _ (ap (λ (x : ℕ). get_or at_loop.before.args.table.now (x + at_loop.loop.slot) 0) (sym i.0) ∙ c.if1.true))
+    let i = c.before.before.before.loop.invariant in
+    search_hit i.1 (omega arith) (eq-eqb _ _ (ap (λ (x : ℕ). get_or c.before.before.before.before.args.table.now (x + c.before.before.before.loop.slot) 0) (sym i.0) ∙ c.if1.true))
 
 add_slot : tie.Need-overflow-add-slot invariant_loop decreases_loop
 add_slot c = omega arith
@@ -43,12 +41,8 @@ loop_less c = omega arith
 
 loop_again : tie.Need-loop-preserved invariant_loop decreases_loop
 loop_again c =
-    let at_loop = c.before.before.before in
-    let i = at_loop.loop.invariant in (
-      i.0,
-      search_more i.1 (omega arith)
-          (ne_eqb _ _ (λ e. c.if1.false (ap (λ (x : ℕ). get_or at_loop.before.args.table.now (x + at_loop.loop.slot) 0) i.0 ∙ e))),
-    )
+    let i = c.before.before.before.loop.invariant in
+    (i.0, search_more i.1 (omega arith) (ne_eqb _ _ (λ e. c.if1.false (ap (λ (x : ℕ). get_or c.before.before.before.before.args.table.now (x + c.before.before.before.loop.slot) 0) i.0 ∙ e))))
 
 returns_2 : tie.Need-returns-2 invariant_loop decreases_loop
 unfolding free_of_row

@@ -2,18 +2,17 @@
 use Prim.Native.Nat.{◌-◌}
 use mathlib.Core.Path.{sym, ◌∙◌}
 use native.Mathlib.Omega.{arith}
-use mir.Facts.{Fits-widen}
 use borrow.Author.Tests.{eq-eqb, ne_eqb}
 use lib.Dec.{eqb}
 use Rattle.answers.proofs.Lowest.{Searched, search_start, search_more, somewhere_test, nowhere_test}
-use Rattle.flows.specs.Flows.{input_of}
 use Rattle.tables.specs.Accepted.{entry}
 use Rattle.tables.proofs.Places.{place_within}
+use Rattle.builder.specs.Exchange.{input_at}
 use Rattle.builder.proofs.slots.input_used.Statement.{statement}
 use Rattle.builder.proofs.slots.input_used.Tie as tie
 
 abbrev invariant_loop : tie.invariant_loop
-invariant_loop frame ports list table input slot row₀ row = Searched 0 ports (λ r. eqb (input_of list (entry frame table r slot)) input) row
+invariant_loop frame ports list table input slot row₀ row = Searched 0 ports (λ r. eqb (input_at list (entry frame table r slot)) input) row
 
 abbrev decreases_loop : tie.decreases_loop
 decreases_loop frame ports list table input slot row₀ row = ports - row
@@ -21,34 +20,29 @@ decreases_loop frame ports list table input slot row₀ row = ports - row
 loop_holds : tie.Need-loop-init invariant_loop decreases_loop
 loop_holds c = search_start 0 _ _
 
-mul_input_of : tie.Need-overflow-mul-input-of invariant_loop decreases_loop
-mul_input_of c =
+mul_input_at : tie.Need-overflow-mul-input-at invariant_loop decreases_loop
+mul_input_at c =
     let pre = c.before.before.before.before.requires in
     omega (arith, place_within pre.0 c.before.loop.row c.before.before.before.before.args.slot c.loop-test.true pre.1)
 
-add_input_of : tie.Need-overflow-add-input-of invariant_loop decreases_loop
-add_input_of c =
+add_input_at : tie.Need-overflow-add-input-at invariant_loop decreases_loop
+add_input_at c =
     let pre = c.before.before.before.before.requires in
     omega (arith, place_within pre.0 c.before.loop.row c.before.before.before.before.args.slot c.loop-test.true pre.1)
 
-shared_slice_read_input_of : tie.Need-shared-slice-read-input-of invariant_loop decreases_loop
-shared_slice_read_input_of c =
+shared_slice_read_input_at : tie.Need-shared-slice-read-input-at invariant_loop decreases_loop
+shared_slice_read_input_at c =
     let pre = c.before.before.before.before.before.requires in
     place_within pre.0 c.before.before.loop.row c.before.before.before.before.before.args.slot c.before.loop-test.true pre.1
 
-cast_input_of : tie.Need-overflow-cast-input-of invariant_loop decreases_loop
-cast_input_of c = Fits-widen tt (c.shared-slice-known3.given _)
-
-input_of_requires : tie.Need-input-of-requires invariant_loop decreases_loop
-input_of_requires c κs = tt
+input_at_requires : tie.Need-input-at-requires invariant_loop decreases_loop
+input_at_requires c κs = tt
 
 returns : tie.Need-returns invariant_loop decreases_loop
 returns c =
-    let at_loop = c.before.before.before.before in
-    let a = at_loop.before.before.before.args in
-    sym (somewhere_test 0 a.ports (λ r. eqb (input_of a.list.now (entry a.frame a.table.now r a.slot)) a.input)
-    at_loop.loop.row (omega arith) (omega arith)
-    (eq-eqb _ _ (sym c.before.Input-of.ensures ∙ c.if1.true)))
+    let a = c.before.before.before.before.before.before.before.args in
+    sym (somewhere_test 0 a.ports (λ r. eqb (input_at a.list.now (entry a.frame a.table.now r a.slot)) a.input) c.before.before.before.before.loop.row (omega arith) (omega arith)
+    (eq-eqb _ _ (sym c.before.input-at.ensures ∙ c.if1.true)))
 
 add_row : tie.Need-overflow-add-row invariant_loop decreases_loop
 add_row c = omega arith
@@ -57,12 +51,12 @@ loop_less : tie.Need-loop-smaller invariant_loop decreases_loop
 loop_less c = omega arith
 
 loop_again : tie.Need-loop-preserved invariant_loop decreases_loop
-loop_again c = search_more c.before.before.before.before.loop.invariant (omega arith) (ne_eqb _ _ (λ e. c.if1.false (c.before.Input-of.ensures ∙ e)))
+loop_again c = search_more c.before.before.before.before.loop.invariant (omega arith) (ne_eqb _ _ (λ e. c.if1.false (c.before.input-at.ensures ∙ e)))
 
 returns_2 : tie.Need-returns-2 invariant_loop decreases_loop
 returns_2 c =
     let a = c.before.before.before.before.args in
-    sym (nowhere_test 0 a.ports (λ r. eqb (input_of a.list.now (entry a.frame a.table.now r a.slot)) a.input)
+    sym (nowhere_test 0 a.ports (λ r. eqb (input_at a.list.now (entry a.frame a.table.now r a.slot)) a.input)
     (λ k l u. c.before.loop.invariant.none_lower k l (omega arith)))
 
 pub input_used_spec : {M : Type 1} → statement M
@@ -72,11 +66,10 @@ input_used_spec =
     invariant_loop
     decreases_loop
     loop_holds
-    mul_input_of
-    add_input_of
-    shared_slice_read_input_of
-    cast_input_of
-    input_of_requires
+    mul_input_at
+    add_input_at
+    shared_slice_read_input_at
+    input_at_requires
     returns
     add_row
     loop_less

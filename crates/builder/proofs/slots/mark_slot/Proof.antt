@@ -43,10 +43,8 @@ add_used c =
 
 slice_write_used : tie.Need-slice-write-used invariant_loop decreases_loop
 slice_write_used c =
-    let at_test = c.before.before in
-    let at_loop = at_test.before in
-    let b = at_loop.before.before.before.before in
-    omega (arith, place_within b.requires.1 at_loop.loop.row b.args.slot at_test.loop-test.true b.requires.2, at_loop.loop.invariant.1)
+    let b = c.before.before.before.before.before.before.before in
+    omega (arith, place_within b.requires.1 c.before.before.before.loop.row b.args.slot c.before.before.loop-test.true b.requires.2, c.before.before.before.loop.invariant.1)
 
 add_row : tie.Need-overflow-add-row invariant_loop decreases_loop
 add_row c = omega (arith, c.before.before.before.before.before.before.before.requires.0.ports_in_range.at_most)
@@ -56,16 +54,13 @@ loop_less c = omega arith
 
 loop_again : tie.Need-loop-preserved invariant_loop decreases_loop
 loop_again c =
-    let at_test = c.before.before in
-    let at_loop = at_test.before in
-    let b = at_loop.before.before.before.before in
+    let b = c.before.before.before.before.before.before.before in
     let a = b.args in
-    let i = at_loop.loop.invariant in (
+    let i = c.before.before.before.loop.invariant in (
       omega arith,
-      length-set at_loop.loop.used _ c.mark.result ∙ i.1,
-      marked_more a.frame a.ports a.list.now a.table.now a.slot b.requires.2 a.used.now
-          at_loop.loop.row at_loop.loop.used c.before.input-used.result c.mark.result
-          (omega (arith, place_within b.requires.1 at_loop.loop.row a.slot at_test.loop-test.true b.requires.2, i.1))
+      length-set c.before.before.before.loop.used _ c.mark.result ∙ i.1,
+      marked_more a.frame a.ports a.list.now a.table.now a.slot b.requires.2 a.used.now c.before.before.before.loop.row c.before.before.before.loop.used c.before.input-used.result c.mark.result
+          (omega (arith, place_within b.requires.1 c.before.before.before.loop.row a.slot c.before.before.loop-test.true b.requires.2, i.1))
           c.before.input-used.ensures c.mark.ensures i.2,
     )
 

@@ -18,9 +18,7 @@ no_room_requires c κs = search rules
 returns : tie.Need-returns
 returns c =
     let a = c.before.before.before.args in
-    c.no_room.ensures
-    ∙ no_room_agrees a.windows.now (load_in (replicate max_cycle_links 0)) (λ l. 0) a.size a.set
-    (λ l u. get_or-replicate max_cycle_links l 0 0 (omega arith))
+    c.no_room.ensures ∙ no_room_agrees a.windows.now (load_in (replicate max_cycle_links 0)) (λ l. 0) a.size a.set (λ l u. get_or-replicate max_cycle_links l 0 0 (omega arith))
 
 pub above_window_spec : {M : Type 1} → statement M
 above_window_spec = tie.close (tie.spec slice_aggregate_no_room no_room_requires returns)

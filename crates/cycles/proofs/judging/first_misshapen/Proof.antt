@@ -4,16 +4,16 @@ use Prim.Native.Nat.{◌-◌}
 use mathlib.Core.Path.{sym, ◌∙◌}
 use lib.ListN.{length}
 use Rattle.answers.proofs.Lowest.{Searched, search_start, search_more, search_hit, search_end}
-use Rattle.shore.specs.Cycle.{network}
+use Rattle.cycles.specs.Cycle.{network}
 use Rattle.cycles.specs.Judging.{message_misshapen}
 use Rattle.cycles.proofs.judging.first_misshapen.Statement.{statement}
 use Rattle.cycles.proofs.judging.first_misshapen.Tie as tie
 
 abbrev invariant_loop : tie.invariant_loop
-invariant_loop windows sizes sets message₀ message = Searched 0 (length sizes) (message_misshapen (network windows sizes sets)) message
+invariant_loop windows sizes paths message₀ message = Searched 0 (length sizes) (message_misshapen (network windows sizes paths)) message
 
 abbrev decreases_loop : tie.decreases_loop
-decreases_loop windows sizes sets message₀ message = length sizes - message
+decreases_loop windows sizes paths message₀ message = length sizes - message
 
 loop_holds : tie.Need-loop-init invariant_loop decreases_loop
 loop_holds c = search_start 0 _ _

@@ -4,7 +4,7 @@ use Prim.Native.Nat.{◌-◌}
 use mathlib.Core.Path.{sym, ◌∙◌}
 use Rattle.answers.proofs.Lowest.{Searched, search_start, search_more, search_found, search_failed}
 use Rattle.answers.specs.Limits.{max_cycle_links}
-use Rattle.shore.specs.Cycle.{in_set}
+use Rattle.cycles.specs.Cycle.{in_set}
 use Rattle.cycles.proofs.judging.link_missing.Statement.{statement}
 use Rattle.cycles.proofs.judging.link_missing.Tie as tie
 

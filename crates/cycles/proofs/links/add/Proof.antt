@@ -6,14 +6,13 @@ use mathlib.Core.List.{List}
 use lib.ListN.{length, get_or, set, length-set}
 use Rattle.answers.specs.Buffers.{written}
 use Rattle.answers.proofs.Buffers.{written_none, written_more, written-past}
-use Rattle.shore.specs.Cycle.{share}
+use Rattle.cycles.specs.Cycle.{share}
 use Rattle.cycles.specs.Steps.{load_in}
 use Rattle.cycles.proofs.links.add.Statement.{statement}
 use Rattle.cycles.proofs.links.add.Tie as tie
 
 abbrev invariant_loop : tie.invariant_loop
-invariant_loop size set links load₀ link₀ load link =
-    (load ≡ written link (λ l. load_in load₀ l + share size set l) load₀) × ((link ≤ links) × (length load ≡ length load₀))
+invariant_loop size set links load₀ link₀ load link = (load ≡ written link (λ l. load_in load₀ l + share size set l) load₀) × ((link ≤ links) × (length load ≡ length load₀))
 
 abbrev decreases_loop : tie.decreases_loop
 decreases_loop size set links load₀ link₀ load link = links - link
@@ -33,13 +32,11 @@ share_requires c κs = omega arith
 add_load : tie.Need-overflow-add-load invariant_loop decreases_loop
 add_load c =
     let l = c.before.before.before.loop in
-    let b = c.before.before.before.before.before in
-    let a = b.args in
+    let a = c.before.before.before.before.before.args in
     let X = a.load.now in
     let f : ℕ → ℕ = λ k. load_in X k + share a.size a.set k in
-    let read : get_or l.load l.link 0 ≡ load_in X l.link =
-    ap (λ (x : List ℕ). get_or x l.link 0) l.invariant.0 ∙ written-past f X l.link l.link (omega arith) in
-    omega (arith, read, c.share.ensures, b.requires.1.1 l.link (omega arith))
+    let read : get_or l.load l.link 0 ≡ load_in X l.link = ap (λ (x : List ℕ). get_or x l.link 0) l.invariant.0 ∙ written-past f X l.link l.link (omega arith) in
+    omega (arith, read, c.share.ensures, c.before.before.before.before.before.requires.1.1 l.link (omega arith))
 
 mul_load_2 : tie.Need-overflow-mul-load-2 invariant_loop decreases_loop
 mul_load_2 c = omega arith
@@ -59,12 +56,8 @@ loop_again c =
     let a = c.before.before.before.before.before.args in
     let X = a.load.now in
     let f : ℕ → ℕ = λ k. load_in X k + share a.size a.set k in
-    let read : get_or l.load l.link 0 ≡ load_in X l.link =
-    ap (λ (x : List ℕ). get_or x l.link 0) l.invariant.0 ∙ written-past f X l.link l.link (omega arith) in (
-      ap (λ (x : List ℕ). set x l.link (get_or l.load l.link 0 + c.share.result)) l.invariant.0
-          ∙ written_more f X l.link _ (omega (arith, read, c.share.ensures)),
-      (omega arith, simp length-set l.invariant.1.1),
-    )
+    let read : get_or l.load l.link 0 ≡ load_in X l.link = ap (λ (x : List ℕ). get_or x l.link 0) l.invariant.0 ∙ written-past f X l.link l.link (omega arith) in
+    (ap (λ (x : List ℕ). set x l.link (get_or l.load l.link 0 + c.share.result)) l.invariant.0 ∙ written_more f X l.link _ (omega (arith, read, c.share.ensures)), (omega arith, simp length-set l.invariant.1.1))
 
 same_length : tie.Need-same-length invariant_loop decreases_loop
 same_length c = c.before.loop.invariant.1.1

@@ -4,7 +4,7 @@ use Prim.Native.Nat.{◌-◌}
 use mathlib.Core.Path.{sym, ◌∙◌}
 use lib.ListN.{length}
 use Rattle.answers.proofs.Lowest.{Searched, search_start, search_more, search_found, search_failed}
-use Rattle.shore.specs.Cycle.{too_much}
+use Rattle.cycles.specs.Cycle.{too_much}
 use Rattle.cycles.specs.Steps.{load_in}
 use Rattle.cycles.proofs.links.no_room.Statement.{statement}
 use Rattle.cycles.proofs.links.no_room.Tie as tie

@@ -12,9 +12,7 @@ use Rattle.cycles.proofs.responses.make_ready.Statement.{statement}
 use Rattle.cycles.proofs.responses.make_ready.Tie as tie
 
 abbrev invariant_loop : tie.invariant_loop
-invariant_loop releases responses cycle ready₀ message₀ ready message =
-    (ready ≡ written message (λ i. one (ready_now releases responses cycle i)) ready₀)
-    × ((message ≤ length releases) × (length ready ≡ length ready₀))
+invariant_loop releases responses cycle ready₀ message₀ ready message = (ready ≡ written message (λ i. one (ready_now releases responses cycle i)) ready₀) × ((message ≤ length releases) × (length ready ≡ length ready₀))
 
 abbrev decreases_loop : tie.decreases_loop
 decreases_loop releases responses cycle ready₀ message₀ ready message = length releases - message
@@ -50,11 +48,7 @@ loop_again : tie.Need-loop-preserved invariant_loop decreases_loop
 loop_again c =
     let l = c.before.before.before.before.loop in
     let a = c.before.before.before.before.before.before.before.before.args in
-    let f : ℕ → ℕ = λ i. one (ready_now a.releases.now a.responses.now a.cycle i) in (
-      ap (λ (x : List ℕ). set x l.message c.ready-byte.result) l.invariant.0
-          ∙ written_more f a.ready.now l.message _ c.ready-byte.ensures,
-      (omega arith, simp length-set l.invariant.1.1),
-    )
+    (ap (λ (x : List ℕ). set x l.message c.ready-byte.result) l.invariant.0 ∙ written_more (λ i. one (ready_now a.releases.now a.responses.now a.cycle i)) a.ready.now l.message _ c.ready-byte.ensures, (omega arith, simp length-set l.invariant.1.1))
 
 same_length : tie.Need-same-length invariant_loop decreases_loop
 same_length c = c.before.loop.invariant.1.1
@@ -62,8 +56,7 @@ same_length c = c.before.loop.invariant.1.1
 returns : tie.Need-returns invariant_loop decreases_loop
 returns c =
     let a = c.before.before.before.before.before.args in
-    let f : ℕ → ℕ = λ i. one (ready_now a.releases.now a.responses.now a.cycle i) in
-    c.before.loop.invariant.0 ∙ ap (λ (n : ℕ). written n f a.ready.now) (omega arith)
+    c.before.loop.invariant.0 ∙ ap (λ (n : ℕ). written n (λ i. one (ready_now a.releases.now a.responses.now a.cycle i)) a.ready.now) (omega arith)
 
 pub make_ready_spec : {M : Type 1} → statement M
 make_ready_spec =

@@ -6,14 +6,12 @@ use mathlib.Core.List.{List}
 use lib.ListN.{length, set, length-set}
 use Rattle.answers.specs.Buffers.{written}
 use Rattle.answers.proofs.Buffers.{written_none, written_more}
-use Rattle.shore.specs.Run.{release_of, mark_for}
+use Rattle.cycles.specs.Run.{release_of, mark_for}
 use Rattle.cycles.proofs.responses.mark_releases.Statement.{statement}
 use Rattle.cycles.proofs.responses.mark_releases.Tie as tie
 
 abbrev invariant_loop : tie.invariant_loop
-invariant_loop releases cycles responses₀ message₀ responses message =
-    (responses ≡ written message (λ i. mark_for (release_of releases i) cycles) responses₀)
-    × ((message ≤ length releases) × (length responses ≡ length responses₀))
+invariant_loop releases cycles responses₀ message₀ responses message = (responses ≡ written message (λ i. mark_for (release_of releases i) cycles) responses₀) × ((message ≤ length releases) × (length responses ≡ length responses₀))
 
 abbrev decreases_loop : tie.decreases_loop
 decreases_loop releases cycles responses₀ message₀ responses message = length releases - message
@@ -46,11 +44,7 @@ loop_again : tie.Need-loop-preserved invariant_loop decreases_loop
 loop_again c =
     let l = c.before.before.before.loop in
     let a = c.before.before.before.before.before.before.args in
-    let f : ℕ → ℕ = λ i. mark_for (release_of a.releases.now i) a.cycles in (
-      ap (λ (x : List ℕ). set x l.message c.mark.result) l.invariant.0
-          ∙ written_more f a.responses.now l.message _ c.mark.ensures,
-      (omega arith, simp length-set l.invariant.1.1),
-    )
+    (ap (λ (x : List ℕ). set x l.message c.mark.result) l.invariant.0 ∙ written_more (λ i. mark_for (release_of a.releases.now i) a.cycles) a.responses.now l.message _ c.mark.ensures, (omega arith, simp length-set l.invariant.1.1))
 
 same_length : tie.Need-same-length invariant_loop decreases_loop
 same_length c = c.before.loop.invariant.1.1
@@ -58,8 +52,7 @@ same_length c = c.before.loop.invariant.1.1
 returns : tie.Need-returns invariant_loop decreases_loop
 returns c =
     let a = c.before.before.before.before.args in
-    let f : ℕ → ℕ = λ i. mark_for (release_of a.releases.now i) a.cycles in
-    c.before.loop.invariant.0 ∙ ap (λ (n : ℕ). written n f a.responses.now) (omega arith)
+    c.before.loop.invariant.0 ∙ ap (λ (n : ℕ). written n (λ i. mark_for (release_of a.releases.now i) a.cycles) a.responses.now) (omega arith)
 
 pub mark_releases_spec : {M : Type 1} → statement M
 mark_releases_spec =

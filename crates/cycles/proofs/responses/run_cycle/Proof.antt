@@ -3,7 +3,7 @@ use native.Mathlib.Omega.{arith}
 use mathlib.Core.Path.{refl}
 use lib.ListN.{replicate}
 use Rattle.answers.specs.Limits.{max_messages}
-use Rattle.shore.specs.Cycle.{network}
+use Rattle.cycles.specs.Cycle.{network}
 use Rattle.cycles.proofs.CycleOver.{in_time, cycle_over}
 use borrow.Author.Rules.{rules}
 use Rattle.cycles.proofs.responses.run_cycle.Statement.{statement}
@@ -32,30 +32,28 @@ slice_aggregate_note_taken c = search rules
 
 note_taken_requires : tie.Need-note-taken-requires
 note_taken_requires c κs =
-    let took = c.before.before.before.before in
-    let made = took.before.before.before.before.before in
-    let b = made.before.before.before.before.before.before.before.before in
-    let a = b.args in
-    let w = network a.windows.now a.sizes.now a.sets.now in
+    let made = c.before.before.before.before.before.before.before.before.before.make-ready in
+    let took = c.before.before.before.before.take-ready in
+    let asked = c.before.before.before.before.before.before.before.before.before.before.before.before.before.before.before.before.before.requires in
+    let a = c.before.before.before.before.before.before.before.before.before.before.before.before.before.before.before.before.before.args in
+    let w = network a.windows.now a.sizes.now a.paths.now in
     let released =
-    in_time w a.releases.now a.responses.now a.cycle b.requires.1.0 b.requires.0.few_messages
-    (replicate max_messages 0) made.make-ready.new.1.1.1.0 (replicate max_messages 0) took.take-ready.new.1.1.1.1.0
-    refl refl made.make-ready.ensures took.take-ready.ensures.0 in
-    (omega arith, (omega arith, (released, b.requires.1.1.1)))
+    in_time w a.releases.now a.responses.now a.cycle asked.0.as_many_releases asked.0.few_messages
+    (replicate max_messages 0) made.new.1.1.1.0 (replicate max_messages 0) took.new.1.1.1.1.0 refl refl made.ensures took.ensures.0 in
+    (omega arith, (omega arith, (released, asked.1)))
 
 same_length : tie.Need-same-length
 same_length c = search rules
 
 returns : tie.Need-returns
 returns c =
-    let took = c.before.before.before.before.before.before.before in
-    let made = took.before.before.before.before.before in
-    let b = made.before.before.before.before.before.before.before.before in
-    let a = b.args in
-    let w = network a.windows.now a.sizes.now a.sets.now in
-    cycle_over w a.releases.now a.responses.now a.cycle b.requires.1.0 b.requires.0.few_messages
-    (replicate max_messages 0) made.make-ready.new.1.1.1.0 (replicate max_messages 0) took.take-ready.new.1.1.1.1.0
-    refl refl made.make-ready.ensures took.take-ready.ensures.0 _ c.before.before.note-taken.ensures
+    let made = c.before.before.before.before.before.before.before.before.before.before.before.before.make-ready in
+    let took = c.before.before.before.before.before.before.before.take-ready in
+    let asked = c.before.before.before.before.before.before.before.before.before.before.before.before.before.before.before.before.before.before.before.before.requires in
+    let a = c.before.before.before.before.before.before.before.before.before.before.before.before.before.before.before.before.before.before.before.before.args in
+    let w = network a.windows.now a.sizes.now a.paths.now in
+    cycle_over w a.releases.now a.responses.now a.cycle asked.0.as_many_releases asked.0.few_messages
+    (replicate max_messages 0) made.new.1.1.1.0 (replicate max_messages 0) took.new.1.1.1.1.0 refl refl made.ensures took.ensures.0 _ c.before.before.note-taken.ensures
 
 pub run_cycle_spec : {M : Type 1} → statement M
 run_cycle_spec =

@@ -6,41 +6,41 @@ use mathlib.Core.List.{List}
 use lib.ListN.{length}
 use Rattle.answers.specs.Buffers.{written}
 use Rattle.answers.proofs.Buffers.{written_again, written_same}
-use Rattle.shore.specs.Cycle.{network, messages}
-use Rattle.shore.specs.Run.{response_by}
+use Rattle.cycles.specs.Cycle.{network, messages}
+use Rattle.cycles.specs.Run.{response_by, response_of}
 use Rattle.cycles.proofs.CycleOver.{none_over, one-over}
 use Rattle.cycles.proofs.responses.run_cycles.Statement.{statement}
 use Rattle.cycles.proofs.responses.run_cycles.Tie as tie
 
 abbrev invariant_loop : tie.invariant_loop
-invariant_loop windows sizes sets releases cycles responses₀ cycle₀ responses cycle =
-    (responses ≡ written (length sizes) (response_by (network windows sizes sets) releases cycles cycle) responses₀)
-    × ((cycle ≤ cycles) × (length responses ≡ length responses₀))
+invariant_loop windows sizes paths releases cycles responses₀ cycle₀ responses cycle = (responses ≡ written (length sizes) (response_by (network windows sizes paths) releases cycles cycle) responses₀) × ((cycle ≤ cycles) × (length responses ≡ length responses₀))
 
 abbrev decreases_loop : tie.decreases_loop
-decreases_loop windows sizes sets releases cycles responses₀ cycle₀ responses cycle = cycles - cycle
+decreases_loop windows sizes paths releases cycles responses₀ cycle₀ responses cycle = cycles - cycle
 
 mark_releases_requires : tie.Need-mark-releases-requires invariant_loop decreases_loop
-mark_releases_requires c κs =
-    let asked = c.before.before.before.before.before.before.requires in
-    omega (arith, asked.0.as_many_releases, asked.1)
+mark_releases_requires c κs = omega (arith, c.before.before.before.before.before.before.requires.0.as_many_releases, c.before.before.before.before.before.before.requires.0.room)
 
 loop_holds : tie.Need-loop-init invariant_loop decreases_loop
 loop_holds c =
-    let marked = c.before.before in
-    let b = marked.before.before.before.before.before.before.before in
-    let a = b.args in
-    let w = network a.windows.now a.sizes.now a.sets.now in
-    let first = none_over w a.releases.now a.responses.now _ a.cycles b.requires.0.as_many_releases marked.mark-releases.ensures in
-    (written_same (response_by w a.releases.now a.cycles 0) a.responses.now _ (messages w) b.requires.1 first, (omega arith, refl))
+    let asked = c.before.before.before.before.before.before.before.before.before.requires in
+    let a = c.before.before.before.before.before.before.before.before.before.args in
+    let w = network a.windows.now a.sizes.now a.paths.now in
+    let first = none_over w a.releases.now a.responses.now _ a.cycles asked.0.as_many_releases c.before.before.mark-releases.ensures in
+    (written_same (response_by w a.releases.now a.cycles 0) a.responses.now _ (messages w) asked.0.room first, (omega arith, refl))
 
 run_cycle_requires : tie.Need-run-cycle-requires invariant_loop decreases_loop
 run_cycle_requires c κs =
-    let l = c.before.before.loop in
-    let marked = c.before.before.before.before.before in
-    let asked = marked.before.before.before.before.before.before.before.requires in
-    let kept = marked.mark-releases.auto.1.1.0 in
-    (asked.0.network_sized, (asked.0.as_many_releases, (omega (arith, asked.1, l.invariant.1.1, kept), omega (arith, asked.0.cycles_in_range.at_most))))
+    let asked = c.before.before.before.before.before.before.before.before.before.before.before.before.requires in (
+      record {
+        few_links = asked.0.few_links;
+        few_messages = asked.0.few_messages;
+        as_many_sets = asked.0.as_many_sets;
+        as_many_releases = asked.0.as_many_releases;
+        room = omega (arith, asked.0.room, c.before.before.loop.invariant.1.1, c.before.before.before.before.before.mark-releases.auto.1.1.0);
+      },
+      omega arith,
+    )
 
 add_cycle : tie.Need-overflow-add-cycle invariant_loop decreases_loop
 add_cycle c = omega arith
@@ -52,15 +52,12 @@ loop_again : tie.Need-loop-preserved invariant_loop decreases_loop
 loop_again c =
     let went = c.before.before.run-cycle in
     let l = c.before.before.before.before.before.loop in
-    let b = c.before.before.before.before.before.before.before.before in
-    let start = b.before.before.before.before.before.before.before in
-    let a = start.args in
-    let asked = start.requires in
-    let w = network a.windows.now a.sizes.now a.sets.now in
-    let X₀ = b.mark-releases.new.1.1.0 in
-    let room : messages w ≤ length X₀ = omega (arith, asked.1, b.mark-releases.auto.1.1.0) in (
-      one-over w a.releases.now X₀ l.responses went.new.1.1.1.1.1.0 a.cycles l.cycle
-          asked.0.as_many_releases room asked.0.cycles_in_range.at_most (omega arith) l.invariant.0 went.ensures,
+    let marked = c.before.before.before.before.before.before.before.before.mark-releases in
+    let asked = c.before.before.before.before.before.before.before.before.before.before.before.before.before.before.before.requires in
+    let a = c.before.before.before.before.before.before.before.before.before.before.before.before.before.before.before.args in
+    let w = network a.windows.now a.sizes.now a.paths.now in
+    let room : messages w ≤ length marked.new.1.1.0 = omega (arith, asked.0.room, marked.auto.1.1.0) in (
+      one-over w a.releases.now marked.new.1.1.0 l.responses went.new.1.1.1.1.1.0 a.cycles l.cycle asked.0.as_many_releases room asked.1 (omega arith) l.invariant.0 went.ensures,
       (omega arith, went.auto.1.1.1.1.1.0 ∙ l.invariant.1.1),
     )
 
@@ -70,16 +67,15 @@ same_length c = c.before.loop.invariant.1.1 ∙ c.before.before.before.before.ma
 returns : tie.Need-returns invariant_loop decreases_loop
 returns c =
     let l = c.before.loop in
-    let marked = c.before.before.before.before in
-    let b = marked.before.before.before.before.before.before.before in
-    let a = b.args in
-    let w = network a.windows.now a.sizes.now a.sets.now in
-    let by = response_by w a.releases.now a.cycles in
-    let first = none_over w a.releases.now a.responses.now _ a.cycles b.requires.0.as_many_releases marked.mark-releases.ensures in
+    let marked = c.before.before.before.before.mark-releases in
+    let asked = c.before.before.before.before.before.before.before.before.before.before.before.requires in
+    let a = c.before.before.before.before.before.before.before.before.before.before.before.args in
+    let w = network a.windows.now a.sizes.now a.paths.now in
+    let first = none_over w a.releases.now a.responses.now _ a.cycles asked.0.as_many_releases marked.ensures in
     l.invariant.0
-    ∙ ap (λ (n : ℕ). written (messages w) (by n) marked.mark-releases.new.1.1.0) (omega arith)
-    ∙ ap (λ (x : List ℕ). written (messages w) (by a.cycles) x) first
-    ∙ written_again (by 0) (by a.cycles) a.responses.now (messages w) b.requires.1
+    ∙ ap (λ (n : ℕ). written (messages w) (response_by w a.releases.now a.cycles n) marked.new.1.1.0) (omega arith)
+    ∙ ap (λ (x : List ℕ). written (messages w) (response_of w a.releases.now a.cycles) x) first
+    ∙ written_again (response_by w a.releases.now a.cycles 0) (response_of w a.releases.now a.cycles) a.responses.now (messages w) asked.0.room
 
 pub run_cycles_spec : {M : Type 1} → statement M
 run_cycles_spec =

@@ -31,28 +31,22 @@ returns_2 c =
 
 add_requires : tie.Need-add-requires
 add_requires c κs =
-    let known = c.before.before.before.before.before in
-    let b = known.before.before in
-    let a = b.args in
+    let a = c.before.before.before.before.before.before.before.args in
     let W = a.windows.now in
     let X = a.load.now in
-    let windows : (l : ℕ) → get_or W l 0 < 65536 = λ l. omega (arith, known.before.shared-slice-known.given l) in
-    let loads : (l : ℕ) → get_or X l 0 < 65536 = λ l. omega (arith, known.slice-known.given l) in
-    let fit = all_fit W X a.size a.set windows loads (sym c.before.before.no_room.ensures ∙ c.before.if2.false) in
-    (b.requires.0, (b.requires.1, fit))
+    let windows : (l : ℕ) → get_or W l 0 < 65536 = λ l. omega (arith, c.before.before.before.before.before.before.shared-slice-known.given l) in
+    let loads : (l : ℕ) → get_or X l 0 < 65536 = λ l. omega (arith, c.before.before.before.before.before.slice-known.given l) in
+    (c.before.before.before.before.before.before.before.requires.0, (c.before.before.before.before.before.before.before.requires.1, all_fit W X a.size a.set windows loads (sym c.before.before.no_room.ensures ∙ c.before.if2.false)))
 
 same_length_2 : tie.Need-same-length-2
 same_length_2 c = search rules
 
 returns_3 : tie.Need-returns-3
 returns_3 c =
-    let asked = c.before.before.before.before.before in
-    let b = asked.before.before in
-    let a = b.before.before.before.args in
+    let a = c.before.before.before.before.before.before.before.before.before.before.args in
     let W = a.windows.now in
     let X = a.load.now in
-    let room = sym asked.no_room.ensures ∙ c.before.before.before.before.if2.false in
-    let yes = goes W X a.size a.set a.ready b.if1.false room in
+    let yes = goes W X a.size a.set a.ready c.before.before.before.before.before.before.before.if1.false (sym c.before.before.before.before.before.no_room.ensures ∙ c.before.before.before.before.if2.false) in
     (sym (ap one yes), c.before.before.add.ensures ∙ sym (ap (λ (b : Bool). cond b (added (length W) a.size a.set X) X) yes))
 
 pub take_spec : {M : Type 1} → statement M

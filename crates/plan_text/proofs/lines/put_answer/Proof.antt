@@ -19,73 +19,41 @@ put_bytes_requires : tie.Need-put-bytes-requires
 put_bytes_requires c κs = search rules
 
 put_number_requires : tie.Need-put-number-requires
-put_number_requires c κs =
-    let at_put_bytes = c.before.before.before in
-    let start = at_put_bytes.before.before.before.before in
-    omega (
-      arith,
-      answer-length start.args.number start.args.detail,
-      start.requires,
-      at_put_bytes.put-bytes.ensures.next_is,
-      at_put_bytes.put-bytes.auto.0,
-    )
+put_number_requires c κs = omega (arith, answer-length c.before.before.before.before.before.before.before.args.number c.before.before.before.before.before.before.before.args.detail, c.before.before.before.before.before.before.before.requires, c.before.before.before.put-bytes.ensures.next_is, c.before.before.before.put-bytes.auto.0)
 
 put_byte_requires : tie.Need-put-byte-requires
-put_byte_requires c κs =
-    let at_put_number = c.before.before.before in
-    let at_put_bytes = at_put_number.before.before.before.before in
-    let start = at_put_bytes.before.before.before.before in
-    omega (
-      arith,
-      answer-length start.args.number start.args.detail,
-      start.requires,
-      at_put_bytes.put-bytes.ensures.next_is,
-      at_put_bytes.put-bytes.auto.0,
-      at_put_number.put-number.ensures.next_is,
-      at_put_number.put-number.auto.0,
-    )
+put_byte_requires c κs = omega (arith, answer-length c.before.before.before.before.before.before.before.before.before.before.before.args.number c.before.before.before.before.before.before.before.before.before.before.before.args.detail, c.before.before.before.before.before.before.before.before.before.before.before.requires, c.before.before.before.before.before.before.before.put-bytes.ensures.next_is, c.before.before.before.before.before.before.before.put-bytes.auto.0, c.before.before.before.put-number.ensures.next_is, c.before.before.before.put-number.auto.0)
 
 put_signed_requires : tie.Need-put-signed-requires
 put_signed_requires c κs =
-    let at_put_byte = c.before.before.before in
-    let at_put_number = at_put_byte.before.before.before.before in
-    let at_put_bytes = at_put_number.before.before.before.before in
-    let start = at_put_bytes.before.before.before.before in
-    let a = start.args in
     omega (
       arith,
-      answer-length a.number a.detail,
-      start.requires,
-      at_put_bytes.put-bytes.ensures.next_is,
-      at_put_bytes.put-bytes.auto.0,
-      at_put_number.put-number.ensures.next_is,
-      at_put_number.put-number.auto.0,
-      at_put_byte.put_byte.ensures.next_is,
-      at_put_byte.put_byte.auto.0,
-      ap (λ (z : ℤ). length (signed z)) (to_z-of_z w32 a.detail start.ranges.detail),
+      answer-length c.before.before.before.before.before.before.before.before.before.before.before.before.before.before.before.args.number c.before.before.before.before.before.before.before.before.before.before.before.before.before.before.before.args.detail,
+      c.before.before.before.before.before.before.before.before.before.before.before.before.before.before.before.requires,
+      c.before.before.before.before.before.before.before.before.before.before.before.put-bytes.ensures.next_is,
+      c.before.before.before.before.before.before.before.before.before.before.before.put-bytes.auto.0,
+      c.before.before.before.before.before.before.before.put-number.ensures.next_is,
+      c.before.before.before.before.before.before.before.put-number.auto.0,
+      c.before.before.before.put_byte.ensures.next_is,
+      c.before.before.before.put_byte.auto.0,
+      ap (λ (z : ℤ). length (signed z)) (to_z-of_z w32 c.before.before.before.before.before.before.before.before.before.before.before.before.before.before.before.args.detail c.before.before.before.before.before.before.before.before.before.before.before.before.before.before.before.ranges.detail),
     )
 
 put_byte_requires_2 : tie.Need-put-byte-requires-2
 put_byte_requires_2 c κs =
-    let at_put_signed = c.before.before.before in
-    let at_put_byte = at_put_signed.before.before.before.before in
-    let at_put_number = at_put_byte.before.before.before.before in
-    let at_put_bytes = at_put_number.before.before.before.before in
-    let start = at_put_bytes.before.before.before.before in
-    let a = start.args in
     omega (
       arith,
-      answer-length a.number a.detail,
-      start.requires,
-      at_put_bytes.put-bytes.ensures.next_is,
-      at_put_bytes.put-bytes.auto.0,
-      at_put_number.put-number.ensures.next_is,
-      at_put_number.put-number.auto.0,
-      at_put_byte.put_byte.ensures.next_is,
-      at_put_byte.put_byte.auto.0,
-      at_put_signed.put-signed.ensures.next_is,
-      at_put_signed.put-signed.auto.0,
-      ap (λ (z : ℤ). length (signed z)) (to_z-of_z w32 a.detail start.ranges.detail),
+      answer-length c.before.before.before.before.before.before.before.before.before.before.before.before.before.before.before.before.before.before.before.args.number c.before.before.before.before.before.before.before.before.before.before.before.before.before.before.before.before.before.before.before.args.detail,
+      c.before.before.before.before.before.before.before.before.before.before.before.before.before.before.before.before.before.before.before.requires,
+      c.before.before.before.before.before.before.before.before.before.before.before.before.before.before.before.put-bytes.ensures.next_is,
+      c.before.before.before.before.before.before.before.before.before.before.before.before.before.before.before.put-bytes.auto.0,
+      c.before.before.before.before.before.before.before.before.before.before.before.put-number.ensures.next_is,
+      c.before.before.before.before.before.before.before.before.before.before.before.put-number.auto.0,
+      c.before.before.before.before.before.before.before.put_byte.ensures.next_is,
+      c.before.before.before.before.before.before.before.put_byte.auto.0,
+      c.before.before.before.put-signed.ensures.next_is,
+      c.before.before.before.put-signed.auto.0,
+      ap (λ (z : ℤ). length (signed z)) (to_z-of_z w32 c.before.before.before.before.before.before.before.before.before.before.before.before.before.before.before.before.before.before.before.args.detail c.before.before.before.before.before.before.before.before.before.before.before.before.before.before.before.before.before.before.before.ranges.detail),
     )
 
 same_length : tie.Need-same-length
@@ -93,19 +61,12 @@ same_length c = search rules
 
 returns : tie.Need-returns
 returns c =
-    let at_put_byte2 = c.before.before in
-    let at_put_signed = at_put_byte2.before.before.before.before in
-    let at_put_byte = at_put_signed.before.before.before.before in
-    let at_put_number = at_put_byte.before.before.before.before in
-    let at_put_bytes = at_put_number.before.before.before.before in
-    let start = at_put_bytes.before.before.before.before in
-    let a = start.args in
     put_as
     (put_then
-    (put_then (put_then (put_then at_put_bytes.put-bytes.ensures at_put_number.put-number.ensures) at_put_byte.put_byte.ensures)
-    (put_as at_put_signed.put-signed.ensures (ap signed (to_z-of_z w32 a.detail start.ranges.detail))))
-    at_put_byte2.put-byte2.ensures)
-    (answer_is a.number a.detail)
+    (put_then (put_then (put_then c.before.before.before.before.before.before.before.before.before.before.before.before.before.before.before.before.before.before.put-bytes.ensures c.before.before.before.before.before.before.before.before.before.before.before.before.before.before.put-number.ensures) c.before.before.before.before.before.before.before.before.before.before.put_byte.ensures)
+    (put_as c.before.before.before.before.before.before.put-signed.ensures (ap signed (to_z-of_z w32 c.before.before.before.before.before.before.before.before.before.before.before.before.before.before.before.before.before.before.before.before.before.before.args.detail c.before.before.before.before.before.before.before.before.before.before.before.before.before.before.before.before.before.before.before.before.before.before.ranges.detail))))
+    c.before.before.put-byte2.ensures)
+    (answer_is c.before.before.before.before.before.before.before.before.before.before.before.before.before.before.before.before.before.before.before.before.before.before.args.number c.before.before.before.before.before.before.before.before.before.before.before.before.before.before.before.before.before.before.before.before.before.before.args.detail)
 
 pub put_answer_spec : {M : Type 1} → statement M
 put_answer_spec =

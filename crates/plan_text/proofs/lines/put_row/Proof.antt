@@ -14,36 +14,16 @@ put_bytes_requires : tie.Need-put-bytes-requires
 put_bytes_requires c κs = search rules
 
 put_entries_requires : tie.Need-put-entries-requires
-put_entries_requires c κs =
-    let at_put_bytes = c.before.before.before in
-    let start = at_put_bytes.before.before.before.before.before in
-    omega (arith, row_length start.args.row.now, start.requires, at_put_bytes.put-bytes.ensures.next_is, at_put_bytes.put-bytes.auto.0)
+put_entries_requires c κs = omega (arith, row_length c.before.before.before.before.before.before.before.before.args.row.now, c.before.before.before.before.before.before.before.before.requires, c.before.before.before.put-bytes.ensures.next_is, c.before.before.before.put-bytes.auto.0)
 
 put_byte_requires : tie.Need-put-byte-requires
-put_byte_requires c κs =
-    let at_put_entries = c.before.before.before in
-    let at_put_bytes = at_put_entries.before.before.before.before in
-    let start = at_put_bytes.before.before.before.before.before in
-    omega (
-      arith,
-      row_length start.args.row.now,
-      start.requires,
-      at_put_bytes.put-bytes.ensures.next_is,
-      at_put_bytes.put-bytes.auto.0,
-      at_put_entries.put_entries.ensures.next_is,
-      at_put_entries.put_entries.auto.0,
-    )
+put_byte_requires c κs = omega (arith, row_length c.before.before.before.before.before.before.before.before.before.before.before.before.args.row.now, c.before.before.before.before.before.before.before.before.before.before.before.before.requires, c.before.before.before.before.before.before.before.put-bytes.ensures.next_is, c.before.before.before.before.before.before.before.put-bytes.auto.0, c.before.before.before.put_entries.ensures.next_is, c.before.before.before.put_entries.auto.0)
 
 same_length : tie.Need-same-length
 same_length c = search rules
 
 returns : tie.Need-returns
-returns c =
-    let at_put_byte = c.before.before in
-    let at_put_entries = at_put_byte.before.before.before.before in
-    let at_put_bytes = at_put_entries.before.before.before.before in
-    put_as (put_then (put_then at_put_bytes.put-bytes.ensures at_put_entries.put_entries.ensures) at_put_byte.put_byte.ensures)
-    (row_is at_put_bytes.before.before.before.before.before.args.row.now)
+returns c = put_as (put_then (put_then c.before.before.before.before.before.before.before.before.before.before.put-bytes.ensures c.before.before.before.before.before.before.put_entries.ensures) c.before.before.put_byte.ensures) (row_is c.before.before.before.before.before.before.before.before.before.before.before.before.before.before.before.args.row.now)
 
 pub put_row_spec : {M : Type 1} → statement M
 put_row_spec =

@@ -19,23 +19,17 @@ magnitude_requires : tie.Need-magnitude-requires
 magnitude_requires c κs = search rules
 
 put_byte_requires : tie.Need-put-byte-requires
-put_byte_requires c κs =
-    let start = c.before.before.before.before in
-    omega (arith, ap length (below_zero start.args.n start.ranges.n c.before.if1.true), start.requires)
+put_byte_requires c κs = omega (arith, ap length (below_zero c.before.before.before.before.args.n c.before.before.before.before.ranges.n c.before.if1.true), c.before.before.before.before.requires)
 
 put_number_requires : tie.Need-put-number-requires
 put_number_requires c κs =
-    let at_put_byte = c.before.before.before in
-    let at_if1 = at_put_byte.before.before in
-    let at_magnitude = at_if1.before in
-    let start = at_magnitude.before.before in
     omega (
       arith,
-      ap length (below_zero start.args.n start.ranges.n at_if1.if1.true),
-      start.requires,
-      at_put_byte.put_byte.ensures.next_is,
-      at_put_byte.put_byte.auto.0,
-      ap (λ (k : ℕ). length (digits k)) (at_magnitude.magnitude.ensures ∙ ap nat_abs (to_z-of_z w32 start.args.n start.ranges.n)),
+      ap length (below_zero c.before.before.before.before.before.before.before.before.args.n c.before.before.before.before.before.before.before.before.ranges.n c.before.before.before.before.before.if1.true),
+      c.before.before.before.before.before.before.before.before.requires,
+      c.before.before.before.put_byte.ensures.next_is,
+      c.before.before.before.put_byte.auto.0,
+      ap (λ (k : ℕ). length (digits k)) (c.before.before.before.before.before.before.magnitude.ensures ∙ ap nat_abs (to_z-of_z w32 c.before.before.before.before.before.before.before.before.args.n c.before.before.before.before.before.before.before.before.ranges.n)),
     )
 
 same_length : tie.Need-same-length
@@ -43,38 +37,18 @@ same_length c = search rules
 
 returns : tie.Need-returns
 returns c =
-    let at_put_number = c.before.before in
-    let at_put_byte = at_put_number.before.before.before.before in
-    let at_if1 = at_put_byte.before.before in
-    let at_magnitude = at_if1.before in
-    let start = at_magnitude.before.before in
-    put_as (put_then at_put_byte.put_byte.ensures at_put_number.put-number.ensures)
-    (ap (λ (k : ℕ). minus ∷ digits k) (at_magnitude.magnitude.ensures ∙ ap nat_abs (to_z-of_z w32 start.args.n start.ranges.n))
-    ∙ below_zero start.args.n start.ranges.n at_if1.if1.true)
+    put_as (put_then c.before.before.before.before.before.before.put_byte.ensures c.before.before.put-number.ensures)
+    (ap (λ (k : ℕ). minus ∷ digits k) (c.before.before.before.before.before.before.before.before.before.magnitude.ensures ∙ ap nat_abs (to_z-of_z w32 c.before.before.before.before.before.before.before.before.before.before.before.args.n c.before.before.before.before.before.before.before.before.before.before.before.ranges.n)) ∙ below_zero c.before.before.before.before.before.before.before.before.before.before.before.args.n c.before.before.before.before.before.before.before.before.before.before.before.ranges.n c.before.before.before.before.before.before.before.before.if1.true)
 
 put_number_requires_2 : tie.Need-put-number-requires-2
 put_number_requires_2 c κs =
-    let at_magnitude = c.before.before in
-    let start = at_magnitude.before.before in
-    omega (
-      arith,
-      ap length (not_below start.args.n start.ranges.n c.before.if1.false),
-      start.requires,
-      ap (λ (k : ℕ). length (digits k)) (at_magnitude.magnitude.ensures ∙ ap nat_abs (to_z-of_z w32 start.args.n start.ranges.n)),
-    )
+    omega (arith, ap length (not_below c.before.before.before.before.args.n c.before.before.before.before.ranges.n c.before.if1.false), c.before.before.before.before.requires, ap (λ (k : ℕ). length (digits k)) (c.before.before.magnitude.ensures ∙ ap nat_abs (to_z-of_z w32 c.before.before.before.before.args.n c.before.before.before.before.ranges.n)))
 
 same_length_2 : tie.Need-same-length-2
 same_length_2 c = search rules
 
 returns_2 : tie.Need-returns-2
-returns_2 c =
-    let at_put_number2 = c.before.before in
-    let at_if1 = at_put_number2.before.before in
-    let at_magnitude = at_if1.before in
-    let start = at_magnitude.before.before in
-    put_as at_put_number2.put-number2.ensures
-    (ap digits (at_magnitude.magnitude.ensures ∙ ap nat_abs (to_z-of_z w32 start.args.n start.ranges.n))
-    ∙ not_below start.args.n start.ranges.n at_if1.if1.false)
+returns_2 c = put_as c.before.before.put-number2.ensures (ap digits (c.before.before.before.before.before.magnitude.ensures ∙ ap nat_abs (to_z-of_z w32 c.before.before.before.before.before.before.before.args.n c.before.before.before.before.before.before.before.ranges.n)) ∙ not_below c.before.before.before.before.before.before.before.args.n c.before.before.before.before.before.before.before.ranges.n c.before.before.before.before.if1.false)
 
 pub put_signed_spec : {M : Type 1} → statement M
 put_signed_spec =

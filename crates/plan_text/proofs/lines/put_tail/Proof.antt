@@ -19,10 +19,7 @@ shared_slice_read_put_after_comma : tie.Need-shared-slice-read-put-after-comma i
 shared_slice_read_put_after_comma c = omega arith
 
 put_after_comma_requires : tie.Need-put-after-comma-requires invariant_loop decreases_loop
-put_after_comma_requires c κs =
-    let at_test = c.before.before in
-    let at_loop = at_test.before in
-    entry_room at_loop.loop.invariant at_test.loop-test.true at_loop.before.before.before.requires
+put_after_comma_requires c κs = entry_room c.before.before.before.loop.invariant c.before.before.loop-test.true c.before.before.before.before.before.before.requires
 
 add_slot : tie.Need-overflow-add-slot invariant_loop decreases_loop
 add_slot c = omega arith
@@ -31,11 +28,7 @@ loop_less : tie.Need-loop-smaller invariant_loop decreases_loop
 loop_less c = omega arith
 
 loop_again : tie.Need-loop-preserved invariant_loop decreases_loop
-loop_again c =
-    let at_put_after_comma = c.before.before in
-    let at_test = at_put_after_comma.before.before.before in
-    tail_more at_test.before.loop.invariant at_test.loop-test.true at_put_after_comma.put-after-comma.new.0
-    at_put_after_comma.put-after-comma.result at_put_after_comma.put-after-comma.auto.0 at_put_after_comma.put-after-comma.ensures
+loop_again c = tail_more c.before.before.before.before.before.before.loop.invariant c.before.before.before.before.before.loop-test.true c.before.before.put-after-comma.new.0 c.before.before.put-after-comma.result c.before.before.put-after-comma.auto.0 c.before.before.put-after-comma.ensures
 
 same_length : tie.Need-same-length invariant_loop decreases_loop
 same_length c = c.before.loop.invariant.as_long

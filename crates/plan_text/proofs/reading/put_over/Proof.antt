@@ -29,10 +29,8 @@ mul_buffer_2 c = omega arith
 
 slice_write_buffer : tie.Need-slice-write-buffer invariant_loop decreases_loop
 slice_write_buffer c =
-    let at_loop = c.before.before in
-    let start = at_loop.before in
-    let i = at_loop.loop.invariant in
-    omega (arith, ap length i.1, copy_length start.args.buffer.now start.args.front.now start.requires at_loop.loop.i i.0)
+    let i = c.before.before.loop.invariant in
+    omega (arith, ap length i.1, copy_length c.before.before.before.args.buffer.now c.before.before.before.args.front.now c.before.before.before.requires c.before.before.loop.i i.0)
 
 add_i : tie.Need-overflow-add-i invariant_loop decreases_loop
 add_i c = omega arith
@@ -42,28 +40,19 @@ loop_less c = omega arith
 
 loop_again : tie.Need-loop-preserved invariant_loop decreases_loop
 loop_again c =
-    let at_loop = c.before.before in
-    let start = at_loop.before in
-    let a = start.args in
-    let i = at_loop.loop.invariant in (
+    let i = c.before.before.loop.invariant in (
       omega arith,
-      ap (λ (l : List ℕ). set l at_loop.loop.i (get_or a.front.now at_loop.loop.i 0)) i.1
-          ∙ copy_more a.buffer.now a.front.now start.requires at_loop.loop.i c.before.loop-test.true,
+      ap (λ (l : List ℕ). set l c.before.before.loop.i (get_or c.before.before.before.args.front.now c.before.before.loop.i 0)) i.1 ∙ copy_more c.before.before.before.args.buffer.now c.before.before.before.args.front.now c.before.before.before.requires c.before.before.loop.i c.before.loop-test.true,
     )
 
 same_length : tie.Need-same-length invariant_loop decreases_loop
-same_length c =
-    let start = c.before.before in
-    let i = c.before.loop.invariant in
-    ap length i.1 ∙ copy_length start.args.buffer.now start.args.front.now start.requires c.before.loop.i i.0
+same_length c = let i = c.before.loop.invariant in ap length i.1 ∙ copy_length c.before.before.args.buffer.now c.before.before.args.front.now c.before.before.requires c.before.loop.i i.0
 
 returns : tie.Need-returns invariant_loop decreases_loop
 returns c =
-    let start = c.before.before in
-    let a = start.args in
     let i = c.before.loop.invariant in
-    let whole : c.before.loop.i ≡ length a.front.now = omega arith in
-    i.1 ∙ ap (λ (n : ℕ). paste a.buffer.now 0 a.front.now n) whole ∙ copy_whole a.buffer.now a.front.now start.requires
+    let whole : c.before.loop.i ≡ length c.before.before.args.front.now = omega arith in
+    i.1 ∙ ap (λ (n : ℕ). paste c.before.before.args.buffer.now 0 c.before.before.args.front.now n) whole ∙ copy_whole c.before.before.args.buffer.now c.before.before.args.front.now c.before.before.requires
 
 pub put_over_spec : {M : Type 1} → statement M
 put_over_spec =

@@ -18,9 +18,7 @@ before_field_requires : tie.Need-before-field-requires invariant_loop decreases_
 before_field_requires c κs = tt
 
 loop_holds : tie.Need-loop-init invariant_loop decreases_loop
-loop_holds c =
-    let a = c.before.before.before.args in
-    going_start a.text.now a.numbers.now c.before-field.result c.before-field.ensures
+loop_holds c = going_start c.before.before.before.args.text.now c.before.before.before.args.numbers.now c.before-field.result c.before-field.ensures
 
 shared_slice_read_b : tie.Need-shared-slice-read-b invariant_loop decreases_loop
 shared_slice_read_b c = omega arith
@@ -32,26 +30,13 @@ same_length : tie.Need-same-length invariant_loop decreases_loop
 same_length c = c.before.before.before.before.loop.invariant.as_long
 
 returns : tie.Need-returns invariant_loop decreases_loop
-returns c =
-    let at_test = c.before.before.before in
-    let at_loop = at_test.before in
-    let start = at_loop.before.before.before.before in
-    dies start.args.text.now start.args.numbers.now at_loop.loop.numbers at_loop.loop.reader at_loop.loop.at
-    at_loop.loop.count at_loop.loop.invariant start.requires at_test.loop-test.true _ refl (sym c.before.takes.ensures ∙ not-true _ c.if1.true)
+returns c = dies c.before.before.before.before.before.before.before.before.args.text.now c.before.before.before.before.before.before.before.before.args.numbers.now c.before.before.before.before.loop.numbers c.before.before.before.before.loop.reader c.before.before.before.before.loop.at c.before.before.before.before.loop.count c.before.before.before.before.loop.invariant c.before.before.before.before.before.before.before.before.requires c.before.before.before.loop-test.true _ refl (sym c.before.takes.ensures ∙ not-true _ c.if1.true)
 
 keep_requires : tie.Need-keep-requires invariant_loop decreases_loop
-keep_requires c κs =
-    let at_test = c.before.before.before.before in
-    let at_loop = at_test.before in
-    let start = at_loop.before.before.before.before in
-    room_left start.args.text.now start.args.numbers.now at_loop.loop.numbers at_loop.loop.reader
-    at_loop.loop.at at_loop.loop.count at_loop.loop.invariant start.requires at_test.loop-test.true _ refl
+keep_requires c κs = room_left c.before.before.before.before.before.before.before.before.before.args.text.now c.before.before.before.before.before.before.before.before.before.args.numbers.now c.before.before.before.before.before.loop.numbers c.before.before.before.before.before.loop.reader c.before.before.before.before.before.loop.at c.before.before.before.before.before.loop.count c.before.before.before.before.before.loop.invariant c.before.before.before.before.before.before.before.before.before.requires c.before.before.before.before.loop-test.true _ refl
 
 past_requires : tie.Need-past-requires invariant_loop decreases_loop
-past_requires c κs =
-    let at_if1 = c.before.before.before.before in
-    let at_takes = at_if1.before in
-    (sym at_takes.takes.ensures ∙ not-false _ at_if1.if1.false, at_takes.before.before.before.loop.invariant.standing.value_short)
+past_requires c κs = (sym c.before.before.before.before.before.takes.ensures ∙ not-false _ c.before.before.before.before.if1.false, c.before.before.before.before.before.before.before.before.loop.invariant.standing.value_short)
 
 add_at : tie.Need-overflow-add-at invariant_loop decreases_loop
 add_at c = omega arith
@@ -61,24 +46,14 @@ loop_less c = omega arith
 
 loop_again : tie.Need-loop-preserved invariant_loop decreases_loop
 loop_again c =
-    let at_keep = c.before.before.before in
-    let at_if1 = at_keep.before.before in
-    let at_takes = at_if1.before in
-    let at_test = at_takes.before.before in
-    let at_loop = at_test.before in
-    let start = at_loop.before.before.before.before in
-    turn start.args.text.now start.args.numbers.now at_loop.loop.numbers at_loop.loop.reader
-    at_loop.loop.at at_loop.loop.count at_loop.loop.invariant start.requires at_test.loop-test.true _ refl
-    (sym at_takes.takes.ensures ∙ not-false _ at_if1.if1.false) _ at_keep.keep.ensures.1 _ c.past.ensures _ at_keep.keep.ensures.0
+    turn c.before.before.before.before.before.before.before.before.before.before.before.before.before.args.text.now c.before.before.before.before.before.before.before.before.before.before.before.before.before.args.numbers.now c.before.before.before.before.before.before.before.before.before.loop.numbers c.before.before.before.before.before.before.before.before.before.loop.reader c.before.before.before.before.before.before.before.before.before.loop.at c.before.before.before.before.before.before.before.before.before.loop.count c.before.before.before.before.before.before.before.before.before.loop.invariant c.before.before.before.before.before.before.before.before.before.before.before.before.before.requires c.before.before.before.before.before.before.before.before.loop-test.true _ refl
+    (sym c.before.before.before.before.before.before.takes.ensures ∙ not-false _ c.before.before.before.before.before.if1.false) _ c.before.before.before.keep.ensures.1 _ c.past.ensures _ c.before.before.before.keep.ensures.0
 
 same_length_2 : tie.Need-same-length-2 invariant_loop decreases_loop
 same_length_2 c = c.before.loop.invariant.as_long
 
 returns_2 : tie.Need-returns-2 invariant_loop decreases_loop
-returns_2 c =
-    let start = c.before.before.before.before.before in
-    ends start.args.text.now start.args.numbers.now c.before.loop.numbers c.before.loop.reader
-    c.before.loop.at c.before.loop.count c.before.loop.invariant start.requires (omega (arith, c.loop-test.false))
+returns_2 c = ends c.before.before.before.before.before.args.text.now c.before.before.before.before.before.args.numbers.now c.before.loop.numbers c.before.loop.reader c.before.loop.at c.before.loop.count c.before.loop.invariant c.before.before.before.before.before.requires (omega (arith, c.loop-test.false))
 
 pub scan_spec : {M : Type 1} → statement M
 scan_spec =

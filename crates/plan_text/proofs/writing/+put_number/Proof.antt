@@ -35,58 +35,28 @@ put_number_last_digit_requires : (t : ℕ) → put-number-lts.Need-last-digit-re
 put_number_last_digit_requires t c κs = tt
 
 put_number_put_byte_requires : (t : ℕ) → put-number-lts.Need-put-byte-requires (put_number_calls t) (put_number_at t) put-number.Post
-put_number_put_byte_requires t c κs =
-    let at_if1 = c.before.before in
-    let start = at_if1.before.before in
-    omega (arith, ap length (one_digit start.args.n at_if1.if1.true), start.requires.1)
+put_number_put_byte_requires t c κs = omega (arith, ap length (one_digit c.before.before.before.before.args.n c.before.before.if1.true), c.before.before.before.before.requires.1)
 
 put_number_same_length : (t : ℕ) → put-number-lts.Need-same-length (put_number_calls t) (put_number_at t) put-number.Post
 put_number_same_length t c = c.before.before.put_byte.auto.0
 
 put_number_returns : (t : ℕ) → put-number-lts.Need-returns (put_number_calls t) (put_number_at t) put-number.Post
-put_number_returns t c =
-    let at_put_byte = c.before.before in
-    let at_last_digit = at_put_byte.before in
-    let at_if1 = at_last_digit.before.before in
-    put_as at_put_byte.put_byte.ensures
-    (ap (λ (k : ℕ). k ∷ []) at_last_digit.last-digit.ensures ∙ one_digit at_if1.before.before.args.n at_if1.if1.true)
+put_number_returns t c = put_as c.before.before.put_byte.ensures (ap (λ (k : ℕ). k ∷ []) c.before.before.before.last-digit.ensures ∙ one_digit c.before.before.before.before.before.before.before.args.n c.before.before.before.before.before.if1.true)
 
 put_number_put_number_requires : (t : ℕ) → put-number-lts.Need-put-number-requires (put_number_calls t) (put_number_at t) put-number.Post
-put_number_put_number_requires t c κs =
-    let start = c.before.before.before in (
-      omega (arith, c.before.if1.false, start.requires.0),
-      omega (arith, digits_longer start.args.n c.before.if1.false start.ranges.n.fits, start.requires.1),
-    )
+put_number_put_number_requires t c κs = (omega (arith, c.before.if1.false, c.before.before.before.requires.0), omega (arith, digits_longer c.before.before.before.args.n c.before.if1.false c.before.before.before.ranges.n.fits, c.before.before.before.requires.1))
 
 put_number_last_digit_requires_2 : (t : ℕ) → put-number-lts.Need-last-digit-requires-2 (put_number_calls t) (put_number_at t) put-number.Post
 put_number_last_digit_requires_2 t c κs = tt
 
 put_number_put_byte_requires_2 : (t : ℕ) → put-number-lts.Need-put-byte-requires-2 (put_number_calls t) (put_number_at t) put-number.Post
-put_number_put_byte_requires_2 t c κs =
-    let at_put_number = c.before.before.before.before in
-    let at_if1 = at_put_number.before.before in
-    let start = at_if1.before.before in
-    omega (
-      arith,
-      at_put_number.put-number.ensures.next_is,
-      at_put_number.put-number.auto.0,
-      digits_longer start.args.n at_if1.if1.false start.ranges.n.fits,
-      start.requires.1,
-    )
+put_number_put_byte_requires_2 t c κs = omega (arith, c.before.before.before.before.put-number.ensures.next_is, c.before.before.before.before.put-number.auto.0, digits_longer c.before.before.before.before.before.before.before.before.args.n c.before.before.before.before.before.before.if1.false c.before.before.before.before.before.before.before.before.ranges.n.fits, c.before.before.before.before.before.before.before.before.requires.1)
 
 put_number_same_length_2 : (t : ℕ) → put-number-lts.Need-same-length-2 (put_number_calls t) (put_number_at t) put-number.Post
 put_number_same_length_2 t c = c.before.before.put-byte2.auto.0 ∙ c.before.before.before.before.before.before.before.put-number.auto.0
 
 put_number_returns_2 : (t : ℕ) → put-number-lts.Need-returns-2 (put_number_calls t) (put_number_at t) put-number.Post
-put_number_returns_2 t c =
-    let at_put_byte2 = c.before.before in
-    let at_last_digit2 = at_put_byte2.before in
-    let at_put_number = at_last_digit2.before.before.before.before in
-    let at_if1 = at_put_number.before.before in
-    let start = at_if1.before.before in
-    put_as (put_then at_put_number.put-number.ensures at_put_byte2.put-byte2.ensures)
-    (ap (λ (k : ℕ). digits (start.args.n / 10) ++ k ∷ []) at_last_digit2.last-digit2.ensures
-    ∙ more_digits start.args.n at_if1.if1.false start.ranges.n.fits)
+put_number_returns_2 t c = put_as (put_then c.before.before.before.before.before.before.before.put-number.ensures c.before.before.put-byte2.ensures) (ap (λ (k : ℕ). digits (c.before.before.before.before.before.before.before.before.before.before.before.args.n / 10) ++ k ∷ []) c.before.before.before.last-digit2.ensures ∙ more_digits c.before.before.before.before.before.before.before.before.before.before.before.args.n c.before.before.before.before.before.before.before.before.before.if1.false c.before.before.before.before.before.before.before.before.before.before.before.ranges.n.fits)
 
 pub +put-number-spec : {M : Type 1} → statement M
 +put-number-spec = close μ_put_number λ t. put-number-lts.spec (put_number_calls t)

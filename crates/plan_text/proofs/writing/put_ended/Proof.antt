@@ -10,10 +10,7 @@ put_number_requires : tie.Need-put-number-requires
 put_number_requires c κs = omega (arith, ended_length c.before.before.args.n c.before.before.args.end, c.before.before.requires)
 
 put_byte_requires : tie.Need-put-byte-requires
-put_byte_requires c κs =
-    let at_put_number = c.before.before.before in
-    let start = at_put_number.before.before.before in
-    omega (arith, ended_length start.args.n start.args.end, start.requires, at_put_number.put-number.ensures.next_is, at_put_number.put-number.auto.0)
+put_byte_requires c κs = omega (arith, ended_length c.before.before.before.before.before.before.args.n c.before.before.before.before.before.before.args.end, c.before.before.before.before.before.before.requires, c.before.before.before.put-number.ensures.next_is, c.before.before.before.put-number.auto.0)
 
 same_length : tie.Need-same-length
 same_length c = search rules

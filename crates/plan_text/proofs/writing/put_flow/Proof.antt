@@ -14,57 +14,37 @@ put_bytes_requires : tie.Need-put-bytes-requires
 put_bytes_requires c κs = search rules
 
 put_ended_requires : tie.Need-put-ended-requires
-put_ended_requires c κs =
-    let at_put_bytes = c.before.before.before in
-    let start = at_put_bytes.before.before.before.before in
-    let a = start.args in
-    omega (
-      arith,
-      flow_length a.input a.output a.cells,
-      start.requires,
-      ended_length a.input comma,
-      at_put_bytes.put-bytes.ensures.next_is,
-      at_put_bytes.put-bytes.auto.0,
-    )
+put_ended_requires c κs = omega (arith, flow_length c.before.before.before.before.before.before.before.args.input c.before.before.before.before.before.before.before.args.output c.before.before.before.before.before.before.before.args.cells, c.before.before.before.before.before.before.before.requires, ended_length c.before.before.before.before.before.before.before.args.input comma, c.before.before.before.put-bytes.ensures.next_is, c.before.before.before.put-bytes.auto.0)
 
 put_ended_requires_2 : tie.Need-put-ended-requires-2
 put_ended_requires_2 c κs =
-    let at_put_ended = c.before.before.before in
-    let at_put_bytes = at_put_ended.before.before.before.before in
-    let start = at_put_bytes.before.before.before.before in
-    let a = start.args in
     omega (
       arith,
-      flow_length a.input a.output a.cells,
-      start.requires,
-      ended_length a.input comma,
-      ended_length a.output comma,
-      at_put_bytes.put-bytes.ensures.next_is,
-      at_put_bytes.put-bytes.auto.0,
-      at_put_ended.put_ended.ensures.next_is,
-      at_put_ended.put_ended.auto.0,
+      flow_length c.before.before.before.before.before.before.before.before.before.before.before.args.input c.before.before.before.before.before.before.before.before.before.before.before.args.output c.before.before.before.before.before.before.before.before.before.before.before.args.cells,
+      c.before.before.before.before.before.before.before.before.before.before.before.requires,
+      ended_length c.before.before.before.before.before.before.before.before.before.before.before.args.input comma,
+      ended_length c.before.before.before.before.before.before.before.before.before.before.before.args.output comma,
+      c.before.before.before.before.before.before.before.put-bytes.ensures.next_is,
+      c.before.before.before.before.before.before.before.put-bytes.auto.0,
+      c.before.before.before.put_ended.ensures.next_is,
+      c.before.before.before.put_ended.auto.0,
     )
 
 put_ended_requires_3 : tie.Need-put-ended-requires-3
 put_ended_requires_3 c κs =
-    let at_put_ended2 = c.before.before.before in
-    let at_put_ended = at_put_ended2.before.before.before.before in
-    let at_put_bytes = at_put_ended.before.before.before.before in
-    let start = at_put_bytes.before.before.before.before in
-    let a = start.args in
     omega (
       arith,
-      flow_length a.input a.output a.cells,
-      start.requires,
-      ended_length a.input comma,
-      ended_length a.output comma,
-      ended_length a.cells line_feed,
-      at_put_bytes.put-bytes.ensures.next_is,
-      at_put_bytes.put-bytes.auto.0,
-      at_put_ended.put_ended.ensures.next_is,
-      at_put_ended.put_ended.auto.0,
-      at_put_ended2.put-ended2.ensures.next_is,
-      at_put_ended2.put-ended2.auto.0,
+      flow_length c.before.before.before.before.before.before.before.before.before.before.before.before.before.before.before.args.input c.before.before.before.before.before.before.before.before.before.before.before.before.before.before.before.args.output c.before.before.before.before.before.before.before.before.before.before.before.before.before.before.before.args.cells,
+      c.before.before.before.before.before.before.before.before.before.before.before.before.before.before.before.requires,
+      ended_length c.before.before.before.before.before.before.before.before.before.before.before.before.before.before.before.args.input comma,
+      ended_length c.before.before.before.before.before.before.before.before.before.before.before.before.before.before.before.args.output comma,
+      ended_length c.before.before.before.before.before.before.before.before.before.before.before.before.before.before.before.args.cells line_feed,
+      c.before.before.before.before.before.before.before.before.before.before.before.put-bytes.ensures.next_is,
+      c.before.before.before.before.before.before.before.before.before.before.before.put-bytes.auto.0,
+      c.before.before.before.before.before.before.before.put_ended.ensures.next_is,
+      c.before.before.before.before.before.before.before.put_ended.auto.0,
+      c.before.before.before.put-ended2.ensures.next_is,
+      c.before.before.before.put-ended2.auto.0,
     )
 
 same_length : tie.Need-same-length
@@ -72,15 +52,9 @@ same_length c = search rules
 
 returns : tie.Need-returns
 returns c =
-    let at_put_ended3 = c.before.before in
-    let at_put_ended2 = at_put_ended3.before.before.before.before in
-    let at_put_ended = at_put_ended2.before.before.before.before in
-    let at_put_bytes = at_put_ended.before.before.before.before in
-    let a = at_put_bytes.before.before.before.before.args in
     put_as
-    (put_then (put_then (put_then at_put_bytes.put-bytes.ensures at_put_ended.put_ended.ensures) at_put_ended2.put-ended2.ensures)
-    at_put_ended3.put-ended3.ensures)
-    (flow_is a.input a.output a.cells)
+    (put_then (put_then (put_then c.before.before.before.before.before.before.before.before.before.before.before.before.before.before.put-bytes.ensures c.before.before.before.before.before.before.before.before.before.before.put_ended.ensures) c.before.before.before.before.before.before.put-ended2.ensures) c.before.before.put-ended3.ensures)
+    (flow_is c.before.before.before.before.before.before.before.before.before.before.before.before.before.before.before.before.before.before.args.input c.before.before.before.before.before.before.before.before.before.before.before.before.before.before.before.before.before.before.args.output c.before.before.before.before.before.before.before.before.before.before.before.before.before.before.before.before.before.before.args.cells)
 
 pub put_flow_spec : {M : Type 1} → statement M
 put_flow_spec =

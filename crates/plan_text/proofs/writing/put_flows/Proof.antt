@@ -20,9 +20,7 @@ flow_count_requires : tie.Need-flow-count-requires invariant_loop decreases_loop
 flow_count_requires c κs = tt
 
 loop_holds : tie.Need-loop-init invariant_loop decreases_loop
-loop_holds c =
-    let a = c.before.before.before.args in
-    (c.flow-count.ensures, lines_none a.out.now a.at a.list.now)
+loop_holds c = (c.flow-count.ensures, lines_none c.before.before.before.args.out.now c.before.before.before.args.at c.before.before.before.args.list.now)
 
 add_flow : tie.Need-overflow-add-flow invariant_loop decreases_loop
 add_flow c = omega arith
@@ -38,15 +36,9 @@ cells_of_requires c κs = tt
 
 put_flow_requires : tie.Need-put-flow-requires invariant_loop decreases_loop
 put_flow_requires c κs =
-    let at_output_of = c.before.before in
-    let at_input_of = at_output_of.before in
-    let at_test = at_input_of.before in
-    let at_loop = at_test.before in
-    let start = at_loop.before.before.before.before in
-    let i = at_loop.loop.invariant in
-    subst (λ (t : List ℕ). at_loop.loop.next + length t ≤ length at_loop.loop.out)
-    (sym (same_line at_input_of.Input-of.ensures at_output_of.output-of.ensures c.before.Cells-of.ensures))
-    (line_room i.1 start.requires.1 (omega (arith, i.0, at_test.loop-test.true)) start.requires.0)
+    let i = c.before.before.before.before.before.loop.invariant in
+    subst (λ (t : List ℕ). c.before.before.before.before.before.loop.next + length t ≤ length c.before.before.before.before.before.loop.out) (sym (same_line c.before.before.before.Input-of.ensures c.before.before.output-of.ensures c.before.Cells-of.ensures))
+    (line_room i.1 c.before.before.before.before.before.before.before.before.before.requires.1 (omega (arith, i.0, c.before.before.before.before.loop-test.true)) c.before.before.before.before.before.before.before.before.before.requires.0)
 
 add_passed : tie.Need-overflow-add-passed invariant_loop decreases_loop
 add_passed c = omega arith
@@ -56,18 +48,10 @@ loop_less c = omega arith
 
 loop_again : tie.Need-loop-preserved invariant_loop decreases_loop
 loop_again c =
-    let at_put_flow = c.before.before in
-    let at_cells_of = at_put_flow.before.before in
-    let at_output_of = at_cells_of.before in
-    let at_input_of = at_output_of.before in
-    let at_test = at_input_of.before in
-    let at_loop = at_test.before in
-    let i = at_loop.loop.invariant in (
+    let i = c.before.before.before.before.before.before.before.before.loop.invariant in (
       i.0,
-      lines_more i.1 at_loop.before.before.before.before.requires.1 (omega (arith, i.0, at_test.loop-test.true))
-          at_put_flow.put-flow.new.0 at_put_flow.put-flow.result at_put_flow.put-flow.auto.0
-          (put_as at_put_flow.put-flow.ensures
-          (same_line at_input_of.Input-of.ensures at_output_of.output-of.ensures at_cells_of.Cells-of.ensures)),
+      lines_more i.1 c.before.before.before.before.before.before.before.before.before.before.before.before.requires.1 (omega (arith, i.0, c.before.before.before.before.before.before.before.loop-test.true)) c.before.before.put-flow.new.0 c.before.before.put-flow.result c.before.before.put-flow.auto.0
+          (put_as c.before.before.put-flow.ensures (same_line c.before.before.before.before.before.before.Input-of.ensures c.before.before.before.before.before.output-of.ensures c.before.before.before.before.Cells-of.ensures)),
     )
 
 same_length : tie.Need-same-length invariant_loop decreases_loop

@@ -10,50 +10,27 @@ slice_aggregate_put_line : tie.Need-slice-aggregate-put-line
 slice_aggregate_put_line c = search rules
 
 put_line_requires : tie.Need-put-line-requires
-put_line_requires c κs =
-    let start = c.before.before.before.before in
-    let a = start.args in
-    omega (arith, plan_length a.frame a.ports a.list.now, start.requires.0)
+put_line_requires c κs = omega (arith, plan_length c.before.before.before.before.args.frame c.before.before.before.before.args.ports c.before.before.before.before.args.list.now, c.before.before.before.before.requires.0)
 
 slice_aggregate_put_line_2 : tie.Need-slice-aggregate-put-line-2
 slice_aggregate_put_line_2 c = search rules
 
 put_line_requires_2 : tie.Need-put-line-requires-2
-put_line_requires_2 c κs =
-    let at_put_line = c.before.before.before.before in
-    let start = at_put_line.before.before.before.before.before in
-    let a = start.args in
-    omega (arith, plan_length a.frame a.ports a.list.now, start.requires.0, at_put_line.put-line.ensures.next_is, at_put_line.put-line.auto.0)
+put_line_requires_2 c κs = omega (arith, plan_length c.before.before.before.before.before.before.before.before.before.args.frame c.before.before.before.before.before.before.before.before.before.args.ports c.before.before.before.before.before.before.before.before.before.args.list.now, c.before.before.before.before.before.before.before.before.before.requires.0, c.before.before.before.before.put-line.ensures.next_is, c.before.before.before.before.put-line.auto.0)
 
 put_flows_requires : tie.Need-put-flows-requires
-put_flows_requires c κs =
-    let at_put_line2 = c.before.before.before in
-    let at_put_line = at_put_line2.before.before.before.before.before in
-    let start = at_put_line.before.before.before.before.before in
-    let a = start.args in (
-      omega (
-        arith,
-        plan_length a.frame a.ports a.list.now,
-        start.requires.0,
-        at_put_line.put-line.ensures.next_is,
-        at_put_line.put-line.auto.0,
-        at_put_line2.put-line2.ensures.next_is,
-        at_put_line2.put-line2.auto.0,
-      ),
-      start.requires.1,
-    )
+put_flows_requires c κs = (
+  omega (arith, plan_length c.before.before.before.before.before.before.before.before.before.before.before.before.before.args.frame c.before.before.before.before.before.before.before.before.before.before.before.before.before.args.ports c.before.before.before.before.before.before.before.before.before.before.before.before.before.args.list.now, c.before.before.before.before.before.before.before.before.before.before.before.before.before.requires.0, c.before.before.before.before.before.before.before.before.put-line.ensures.next_is, c.before.before.before.before.before.before.before.before.put-line.auto.0, c.before.before.before.put-line2.ensures.next_is, c.before.before.before.put-line2.auto.0),
+  c.before.before.before.before.before.before.before.before.before.before.before.before.before.requires.1,
+)
 
 same_length : tie.Need-same-length
 same_length c = search rules
 
 returns : tie.Need-returns
 returns c =
-    let at_put_flows = c.before.before in
-    let at_put_line2 = at_put_flows.before.before.before.before in
-    let at_put_line = at_put_line2.before.before.before.before.before in
-    let a = at_put_line.before.before.before.before.before.args in
-    put_as (put_then (put_then at_put_line.put-line.ensures at_put_line2.put-line2.ensures) at_put_flows.put-flows.ensures)
-    (plan_is a.frame a.ports a.list.now)
+    put_as (put_then (put_then c.before.before.before.before.before.before.before.before.before.before.before.put-line.ensures c.before.before.before.before.before.before.put-line2.ensures) c.before.before.put-flows.ensures)
+    (plan_is c.before.before.before.before.before.before.before.before.before.before.before.before.before.before.before.before.args.frame c.before.before.before.before.before.before.before.before.before.before.before.before.before.before.before.before.args.ports c.before.before.before.before.before.before.before.before.before.before.before.before.before.before.before.before.args.list.now)
 
 pub put_plan_spec : {M : Type 1} → statement M
 put_plan_spec =

@@ -20,87 +20,46 @@ list_answer_requires : tie.Need-list-answer-requires
 list_answer_requires c κs = search rules
 
 returns : tie.Need-returns
-returns c =
-    let at_list_answer = c.before.before in
-    let a = at_list_answer.before.before.before.args in
-    write_refused a.frame a.ports a.list.now a.out.now _ at_list_answer.list-answer.ensures c.if1.true
+returns c = write_refused c.before.before.before.before.before.args.frame c.before.before.before.before.before.args.ports c.before.before.before.before.before.args.list.now c.before.before.before.before.before.args.out.now _ c.before.before.list-answer.ensures c.if1.true
 
 slice_aggregate_put_plan : tie.Need-slice-aggregate-put-plan
 slice_aggregate_put_plan c = search rules
 
 put_plan_requires : tie.Need-put-plan-requires
 put_plan_requires c κs =
-    let at_list_answer = c.before.before.before in
-    let a = at_list_answer.before.before.before.args in
-    let r = listed a.frame a.ports a.list.now _ at_list_answer.list-answer.ensures c.before.if1.false in
-    (text_fits a.frame a.ports a.list.now r, r.good_list.of_threes)
+    let r = listed c.before.before.before.before.before.before.args.frame c.before.before.before.before.before.before.args.ports c.before.before.before.before.before.before.args.list.now _ c.before.before.before.list-answer.ensures c.before.if1.false in
+    (text_fits c.before.before.before.before.before.before.args.frame c.before.before.before.before.before.before.args.ports c.before.before.before.before.before.before.args.list.now r, r.good_list.of_threes)
 
 refusal_requires : tie.Need-refusal-requires
 refusal_requires c κs = search rules
 
 returns_2 : tie.Need-returns-2
 returns_2 c =
-    let at_put_plan = c.before.before.before in
-    let at_if1 = at_put_plan.before.before in
-    let at_list_answer = at_if1.before.before in
-    let a = at_list_answer.before.before.before.args in
-    let h = write_no_room a.frame a.ports a.list.now a.out.now _ at_list_answer.list-answer.ensures
-    at_if1.if1.false (omega (arith, c.before.if2.true, at_put_plan.put-plan.ensures.next_is)) in
+    let h = write_no_room c.before.before.before.before.before.before.before.before.before.before.args.frame c.before.before.before.before.before.before.before.before.before.before.args.ports c.before.before.before.before.before.before.before.before.before.before.args.list.now c.before.before.before.before.before.before.before.before.before.before.args.out.now _ c.before.before.before.before.before.before.before.list-answer.ensures c.before.before.before.before.before.if1.false (omega (arith, c.before.if2.true, c.before.before.before.put-plan.ensures.next_is)) in
     (c.refusal.ensures ∙ h.0, h.1)
 
 array_share_prefix_text : tie.Need-array-share-prefix-text
-array_share_prefix_text c =
-    let at_put_plan = c.before.before.before in
-    let at_if1 = at_put_plan.before.before in
-    let at_list_answer = at_if1.before.before in
-    let a = at_list_answer.before.before.before.args in
-    omega (
-      arith,
-      at_put_plan.put-plan.ensures.next_is,
-      at_put_plan.put-plan.auto.1.1.1.0,
-      text_fits a.frame a.ports a.list.now (listed a.frame a.ports a.list.now _ at_list_answer.list-answer.ensures at_if1.if1.false),
-    )
+array_share_prefix_text c = omega (arith, c.before.before.before.put-plan.ensures.next_is, c.before.before.before.put-plan.auto.1.1.1.0, text_fits c.before.before.before.before.before.before.before.before.before.before.args.frame c.before.before.before.before.before.before.before.before.before.before.args.ports c.before.before.before.before.before.before.before.before.before.before.args.list.now (listed c.before.before.before.before.before.before.before.before.before.before.args.frame c.before.before.before.before.before.before.before.before.before.before.args.ports c.before.before.before.before.before.before.before.before.before.before.args.list.now _ c.before.before.before.before.before.before.before.list-answer.ensures c.before.before.before.before.before.if1.false))
 
 slice_aggregate_put_bytes : tie.Need-slice-aggregate-put-bytes
-slice_aggregate_put_bytes c =
-    let at_put_plan = c.before.before.before.before in
-    omega (arith, at_put_plan.put-plan.ensures.next_is, ap length at_put_plan.put-plan.ensures.front)
+slice_aggregate_put_bytes c = omega (arith, c.before.before.before.before.put-plan.ensures.next_is, ap length c.before.before.before.before.put-plan.ensures.front)
 
 put_bytes_requires : tie.Need-put-bytes-requires
-put_bytes_requires c κs =
-    let at_if2 = c.before.before in
-    let at_put_plan = at_if2.before.before in
-    omega (arith, at_put_plan.put-plan.ensures.next_is, ap length at_put_plan.put-plan.ensures.front, at_if2.if2.false)
+put_bytes_requires c κs = omega (arith, c.before.before.before.before.put-plan.ensures.next_is, ap length c.before.before.before.before.put-plan.ensures.front, c.before.before.if2.false)
 
 naming_requires : tie.Need-naming-requires
-naming_requires c κs =
-    let at_put_plan = c.before.before.before.before.before.before.before in
-    let at_if1 = at_put_plan.before.before in
-    let at_list_answer = at_if1.before.before in
-    let a = at_list_answer.before.before.before.args in
-    omega (
-      arith,
-      at_put_plan.put-plan.ensures.next_is,
-      text_fits a.frame a.ports a.list.now (listed a.frame a.ports a.list.now _ at_list_answer.list-answer.ensures at_if1.if1.false),
-    )
+naming_requires c κs = omega (arith, c.before.before.before.before.before.before.before.put-plan.ensures.next_is, text_fits c.before.before.before.before.before.before.before.before.before.before.before.before.before.before.args.frame c.before.before.before.before.before.before.before.before.before.before.before.before.before.before.args.ports c.before.before.before.before.before.before.before.before.before.before.before.before.before.before.args.list.now (listed c.before.before.before.before.before.before.before.before.before.before.before.before.before.before.args.frame c.before.before.before.before.before.before.before.before.before.before.before.before.before.before.args.ports c.before.before.before.before.before.before.before.before.before.before.before.before.before.before.args.list.now _ c.before.before.before.before.before.before.before.before.before.before.before.list-answer.ensures c.before.before.before.before.before.before.before.before.before.if1.false))
 
 same_length : tie.Need-same-length
 same_length c = search rules
 
 returns_3 : tie.Need-returns-3
 returns_3 c =
-    let at_put_bytes = c.before.before.before in
-    let at_if2 = at_put_bytes.before.before.before in
-    let at_put_plan = at_if2.before.before in
-    let at_if1 = at_put_plan.before.before in
-    let at_list_answer = at_if1.before.before in
-    let a = at_list_answer.before.before.before.args in
-    let text = text_of_plan a.frame a.ports a.list.now in
-    let n : at_put_plan.put-plan.result ≡ length text = omega (arith, at_put_plan.put-plan.ensures.next_is) in
-    let h = write_done a.frame a.ports a.list.now a.out.now _ at_list_answer.list-answer.ensures
-    at_if1.if1.false (omega (arith, at_if2.if2.false, at_put_plan.put-plan.ensures.next_is)) in (
+    let text = text_of_plan c.before.before.before.before.before.before.before.before.before.before.before.before.before.before.before.args.frame c.before.before.before.before.before.before.before.before.before.before.before.before.before.before.before.args.ports c.before.before.before.before.before.before.before.before.before.before.before.before.before.before.before.args.list.now in
+    let n : c.before.before.before.before.before.before.before.before.put-plan.result ≡ length text = omega (arith, c.before.before.before.before.before.before.before.before.put-plan.ensures.next_is) in
+    let h = write_done c.before.before.before.before.before.before.before.before.before.before.before.before.before.before.before.args.frame c.before.before.before.before.before.before.before.before.before.before.before.before.before.before.before.args.ports c.before.before.before.before.before.before.before.before.before.before.before.before.before.before.before.args.list.now c.before.before.before.before.before.before.before.before.before.before.before.before.before.before.before.args.out.now _ c.before.before.before.before.before.before.before.before.before.before.before.before.list-answer.ensures c.before.before.before.before.before.before.before.before.before.before.if1.false (omega (arith, c.before.before.before.before.before.before.if2.false, c.before.before.before.before.before.before.before.before.put-plan.ensures.next_is)) in (
       c.naming.ensures ∙ ap (λ (k : ℕ). done_with (pos k)) n ∙ h.0,
-      put_over at_put_bytes.put-bytes.ensures ∙ ap (λ (t : List ℕ). over t a.out.now) at_put_plan.put-plan.ensures.front ∙ h.1,
+      put_over c.before.before.before.put-bytes.ensures ∙ ap (λ (t : List ℕ). over t c.before.before.before.before.before.before.before.before.before.before.before.before.before.before.before.args.out.now) c.before.before.before.before.before.before.before.before.put-plan.ensures.front ∙ h.1,
     )
 
 pub write_spec : {M : Type 1} → statement M

@@ -11,27 +11,16 @@ list_answer_requires : tie.Need-list-answer-requires
 list_answer_requires c κs = search rules
 
 returns : tie.Need-returns
-returns c =
-    let at_list_answer = c.before.before in
-    let a = at_list_answer.before.before.before.args in
-    list_refused a.frame a.ports a.list.now a.table.now _ at_list_answer.list-answer.ensures c.if1.true
+returns c = let a = c.before.before.before.before.before.args in list_refused a.frame a.ports a.list.now a.table.now _ c.before.before.list-answer.ensures c.if1.true
 
 mul_if2 : tie.Need-overflow-mul-if2
-mul_if2 c =
-    let at_list_answer = c.before.before in
-    let a = at_list_answer.before.before.before.args in
-    omega (arith, table_size a.frame a.ports a.list.now a.table.now _ at_list_answer.list-answer.ensures c.if1.false)
+mul_if2 c = let a = c.before.before.before.before.before.args in omega (arith, table_size a.frame a.ports a.list.now a.table.now _ c.before.before.list-answer.ensures c.if1.false)
 
 refusal_requires : tie.Need-refusal-requires
 refusal_requires c κs = search rules
 
 returns_2 : tie.Need-returns-2
-returns_2 c =
-    let at_if1 = c.before.before in
-    let at_list_answer = at_if1.before.before in
-    let a = at_list_answer.before.before.before.args in
-    c.refusal.ensures ∙ too_short a.frame a.ports a.list.now a.table.now _
-    at_list_answer.list-answer.ensures at_if1.if1.false c.before.if2.true
+returns_2 c = let a = c.before.before.before.before.before.before.before.args in c.refusal.ensures ∙ too_short a.frame a.ports a.list.now a.table.now _ c.before.before.before.before.list-answer.ensures c.before.before.if1.false c.before.if2.true
 
 entries_answer_requires : tie.Need-entries-answer-requires
 entries_answer_requires c κs =
@@ -41,12 +30,7 @@ entries_answer_requires c κs =
     )
 
 returns_3 : tie.Need-returns-3
-returns_3 c =
-    let at_if1 = c.before.before in
-    let at_list_answer = at_if1.before.before in
-    let a = at_list_answer.before.before.before.args in
-    c.entries-answer.ensures ∙ entries_decide a.frame a.ports a.list.now a.table.now _
-    at_list_answer.list-answer.ensures at_if1.if1.false c.before.if2.false
+returns_3 c = let a = c.before.before.before.before.before.before.before.args in c.entries-answer.ensures ∙ entries_decide a.frame a.ports a.list.now a.table.now _ c.before.before.before.before.list-answer.ensures c.before.before.if1.false c.before.if2.false
 
 pub check_spec : {M : Type 1} → statement M
 check_spec =

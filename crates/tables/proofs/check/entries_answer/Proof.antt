@@ -20,11 +20,7 @@ naming_requires : tie.Need-naming-requires
 naming_requires c κs = omega (arith, size_bound c.before.before.before.before.requires.0)
 
 returns : tie.Need-returns
-returns c =
-    let f = c.before.before in
-    let a = f.before.before.before.args in
-    c.naming.ensures
-    ∙ place_named a.frame a.ports a.list.now a.table.now _ f.first-not-of-row.ensures c.before.if1.true
+returns c = let a = c.before.before.before.before.before.args in c.naming.ensures ∙ place_named a.frame a.ports a.list.now a.table.now _ c.before.before.first-not-of-row.ensures c.before.if1.true
 
 first_input_twice_requires : tie.Need-first-input-twice-requires
 first_input_twice_requires c κs = search rules
@@ -34,12 +30,9 @@ naming_requires_2 c κs = search rules
 
 returns_2 : tie.Need-returns-2
 returns_2 c =
-    let g = c.before.before in
-    let f = g.before.before in
-    let a = f.before.before.before.args in
+    let a = c.before.before.before.before.before.before.before.args in
     c.naming2.ensures
-    ∙ slot_named a.frame a.ports a.list.now a.table.now _ f.first-not-of-row.ensures g.before.if1.false
-    _ g.first-input-twice.ensures c.before.if2.true
+    ∙ slot_named a.frame a.ports a.list.now a.table.now _ c.before.before.before.before.first-not-of-row.ensures c.before.before.before.if1.false _ c.before.before.first-input-twice.ensures c.before.if2.true
 
 first_count_wrong_requires : tie.Need-first-count-wrong-requires
 first_count_wrong_requires c κs = search rules
@@ -52,26 +45,20 @@ naming_requires_3 c κs = search rules
 
 returns_3 : tie.Need-returns-3
 returns_3 c =
-    let h = c.before.before.before in
-    let g = h.before.before in
-    let f = g.before.before in
-    let a = f.before.before.before.args in
+    let a = c.before.before.before.before.before.before.before.before.before.before.args in
     c.naming3.ensures
-    ∙ flow_named a.frame a.ports a.list.now a.table.now _ f.first-not-of-row.ensures g.before.if1.false
-    _ g.first-input-twice.ensures h.before.if2.false _ h.first-count-wrong.ensures (omega (arith, c.before.before.flow-count.ensures))
+    ∙ flow_named a.frame a.ports a.list.now a.table.now _ c.before.before.before.before.before.before.before.first-not-of-row.ensures c.before.before.before.before.before.before.if1.false _ c.before.before.before.before.before.first-input-twice.ensures c.before.before.before.before.if2.false _
+    c.before.before.before.first-count-wrong.ensures (omega (arith, c.before.before.flow-count.ensures))
 
-done_requires : tie.Need-done-requires
-done_requires c κs = search rules
+refusal_requires : tie.Need-refusal-requires
+refusal_requires c κs = search rules
 
 returns_4 : tie.Need-returns-4
 returns_4 c =
-    let h = c.before.before.before in
-    let g = h.before.before in
-    let f = g.before.before in
-    let a = f.before.before.before.args in
-    c.done.ensures
-    ∙ nothing_wrong a.frame a.ports a.list.now a.table.now _ f.first-not-of-row.ensures g.before.if1.false
-    _ g.first-input-twice.ensures h.before.if2.false _ h.first-count-wrong.ensures (omega (arith, c.before.before.flow-count.ensures))
+    let a = c.before.before.before.before.before.before.before.before.before.before.args in
+    c.refusal.ensures
+    ∙ nothing_wrong a.frame a.ports a.list.now a.table.now _ c.before.before.before.before.before.before.before.first-not-of-row.ensures c.before.before.before.before.before.before.if1.false _ c.before.before.before.before.before.first-input-twice.ensures c.before.before.before.before.if2.false _
+    c.before.before.before.first-count-wrong.ensures (omega (arith, c.before.before.flow-count.ensures))
 
 pub entries_answer_spec : {M : Type 1} → statement M
 entries_answer_spec =
@@ -89,5 +76,5 @@ entries_answer_spec =
     flow_count_requires
     naming_requires_3
     returns_3
-    done_requires
+    refusal_requires
     returns_4)

@@ -47,13 +47,7 @@ cells_of_requires : tie.Need-cells-of-requires invariant_loop decreases_loop
 cells_of_requires c κs = tt
 
 returns : tie.Need-returns invariant_loop decreases_loop
-returns c =
-    let at_loop = c.before.before.before in
-    let at_count_entries = at_loop.before.before in
-    let a = at_count_entries.before.before.before.args in
-    search_hit at_loop.loop.invariant (omega arith)
-    (count_wrong_lem a.frame a.ports a.list.now a.table.now at_count_entries.count_entries.result
-    at_count_entries.count_entries.ensures _ (omega arith) _ c.before.Cells-of.ensures c.if1.true)
+returns c = search_hit c.before.before.before.loop.invariant (omega arith) (count_wrong_lem c.before.before.before.before.before.before.before.before.args.frame c.before.before.before.before.before.before.before.before.args.ports c.before.before.before.before.before.before.before.before.args.list.now c.before.before.before.before.before.before.before.before.args.table.now c.before.before.before.before.before.count_entries.result c.before.before.before.before.before.count_entries.ensures _ (omega arith) _ c.before.Cells-of.ensures c.if1.true)
 
 add_flow : tie.Need-overflow-add-flow invariant_loop decreases_loop
 add_flow c = omega arith
@@ -62,13 +56,7 @@ loop_less : tie.Need-loop-smaller invariant_loop decreases_loop
 loop_less c = omega arith
 
 loop_again : tie.Need-loop-preserved invariant_loop decreases_loop
-loop_again c =
-    let at_loop = c.before.before.before in
-    let at_count_entries = at_loop.before.before in
-    let a = at_count_entries.before.before.before.args in
-    search_more at_loop.loop.invariant (omega arith)
-    (count_right a.frame a.ports a.list.now a.table.now at_count_entries.count_entries.result
-    at_count_entries.count_entries.ensures _ (omega arith) _ c.before.Cells-of.ensures c.if1.false)
+loop_again c = search_more c.before.before.before.loop.invariant (omega arith) (count_right c.before.before.before.before.before.before.before.before.args.frame c.before.before.before.before.before.before.before.before.args.ports c.before.before.before.before.before.before.before.before.args.list.now c.before.before.before.before.before.before.before.before.args.table.now c.before.before.before.before.before.count_entries.result c.before.before.before.before.before.count_entries.ensures _ (omega arith) _ c.before.Cells-of.ensures c.if1.false)
 
 returns_2 : tie.Need-returns-2 invariant_loop decreases_loop
 returns_2 c = search_end c.before.loop.invariant (omega arith)

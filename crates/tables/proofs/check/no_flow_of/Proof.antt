@@ -17,9 +17,7 @@ goes_to_requires : tie.Need-goes-to-requires
 goes_to_requires c κs = search rules
 
 returns_2 : tie.Need-returns-2
-returns_2 c =
-    let at_outside = c.before.before in
-    rw (no_flow_of, ← at_outside.before.flow-count.ensures, ← at_outside.outside.ensures, c.before.if1.false, ← c.Goes-to.ensures)
+returns_2 c = rw (no_flow_of, ← c.before.before.before.flow-count.ensures, ← c.before.before.outside.ensures, c.before.if1.false, ← c.Goes-to.ensures)
 
 pub no_flow_of_spec : {M : Type 1} → statement M
 no_flow_of_spec =

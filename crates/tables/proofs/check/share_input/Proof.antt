@@ -15,9 +15,7 @@ entry_at_requires_2 : tie.Need-entry-at-requires-2
 entry_at_requires_2 c κs = search rules
 
 returns_2 : tie.Need-returns-2
-returns_2 c =
-    let at_if1 = c.before.before in
-    rw (share_input, ← at_if1.before.entry_at.ensures, ne_eqb _ _ at_if1.if1.false, ← c.before.entry-at2.ensures, eq-eqb _ _ c.if2.true)
+returns_2 c = rw (share_input, ← c.before.before.before.entry_at.ensures, ne_eqb _ _ c.before.before.if1.false, ← c.before.entry-at2.ensures, eq-eqb _ _ c.if2.true)
 
 input_of_requires : tie.Need-input-of-requires
 input_of_requires c κs = search rules

@@ -19,33 +19,22 @@ part_result_end : tie.Need-slice-bounds-result-end
 part_result_end c = search rules
 
 returns : tie.Need-returns
-returns c =
-    let at_row_answer = c.before.before.before in
-    let a = at_row_answer.before.before.args in (
-      no_part a.frame a.ports a.table.now a.output _ at_row_answer.row-answer.ensures c.before.if1.true,
-      (
-        refl,
-        omega (arith, no_start a.frame a.ports a.table.now a.output _ at_row_answer.row-answer.ensures c.before.if1.true),
-      ),
-    )
+returns c = (
+  no_part c.before.before.before.before.before.args.frame c.before.before.before.before.before.args.ports c.before.before.before.before.before.args.table.now c.before.before.before.before.before.args.output _ c.before.before.before.row-answer.ensures c.before.if1.true,
+  (
+    refl,
+    omega (arith, no_start c.before.before.before.before.before.args.frame c.before.before.before.before.before.args.ports c.before.before.before.before.before.args.table.now c.before.before.before.before.before.args.output _ c.before.before.before.row-answer.ensures c.before.if1.true),
+  ),
+)
 
 sub_start : tie.Need-overflow-sub-start
-sub_start c =
-    let at_row_answer = c.before.before in
-    let a = at_row_answer.before.before.args in
-    (output_within a.frame a.ports a.table.now a.output _ at_row_answer.row-answer.ensures c.if1.false).at_least
+sub_start c = (output_within c.before.before.before.before.args.frame c.before.before.before.before.args.ports c.before.before.before.before.args.table.now c.before.before.before.before.args.output _ c.before.before.row-answer.ensures c.if1.false).at_least
 
 mul_start : tie.Need-overflow-mul-start
-mul_start c =
-    let at_row_answer = c.before.before in
-    let a = at_row_answer.before.before.args in
-    omega (arith, row_ends a.frame a.ports a.table.now a.output _ at_row_answer.row-answer.ensures c.if1.false)
+mul_start c = omega (arith, row_ends c.before.before.before.before.args.frame c.before.before.before.before.args.ports c.before.before.before.before.args.table.now c.before.before.before.before.args.output _ c.before.before.row-answer.ensures c.if1.false)
 
 add_end : tie.Need-overflow-add-end
-add_end c =
-    let at_row_answer = c.before.before in
-    let a = at_row_answer.before.before.args in
-    omega (arith, row_ends a.frame a.ports a.table.now a.output _ at_row_answer.row-answer.ensures c.if1.false)
+add_end c = omega (arith, row_ends c.before.before.before.before.args.frame c.before.before.before.before.args.ports c.before.before.before.before.args.table.now c.before.before.before.before.args.output _ c.before.before.row-answer.ensures c.if1.false)
 
 sub_result_2 : tie.Need-overflow-sub-result-2
 sub_result_2 c = search rules
@@ -54,21 +43,16 @@ part_result_start_2 : tie.Need-slice-bounds-result-start-2
 part_result_start_2 c = search rules
 
 part_result_end_2 : tie.Need-slice-bounds-result-end-2
-part_result_end_2 c =
-    let at_row_answer = c.before.before in
-    let a = at_row_answer.before.before.args in
-    omega (arith, row_ends a.frame a.ports a.table.now a.output _ at_row_answer.row-answer.ensures c.if1.false)
+part_result_end_2 c = omega (arith, row_ends c.before.before.before.before.args.frame c.before.before.before.before.args.ports c.before.before.before.before.args.table.now c.before.before.before.before.args.output _ c.before.before.row-answer.ensures c.if1.false)
 
 returns_2 : tie.Need-returns-2
-returns_2 c =
-    let at_row_answer = c.before.before.before in
-    let a = at_row_answer.before.before.args in (
-      part_cut a.frame a.ports a.table.now a.output _ at_row_answer.row-answer.ensures c.before.if1.false,
-      (
-        refl,
-        omega (arith, part_start a.frame a.ports a.table.now a.output _ at_row_answer.row-answer.ensures c.before.if1.false),
-      ),
-    )
+returns_2 c = (
+  part_cut c.before.before.before.before.before.args.frame c.before.before.before.before.before.args.ports c.before.before.before.before.before.args.table.now c.before.before.before.before.before.args.output _ c.before.before.before.row-answer.ensures c.before.if1.false,
+  (
+    refl,
+    omega (arith, part_start c.before.before.before.before.before.args.frame c.before.before.before.before.before.args.ports c.before.before.before.before.before.args.table.now c.before.before.before.before.before.args.output _ c.before.before.before.row-answer.ensures c.before.if1.false),
+  ),
+)
 
 pub row_spec : {M : Type 1} → statement M
 row_spec =

@@ -1,1 +1,0 @@
-// No code: specs/ states what a flow is sure of over a history of calls, and proofs/ shows it.

@@ -1,0 +1,2 @@
+pub mod TextRead
+pub mod RowRoom

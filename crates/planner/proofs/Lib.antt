@@ -1,3 +1,0 @@
-pub mod OutputLines
-pub mod TextRead
-pub mod WholeOutput

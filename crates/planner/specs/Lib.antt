@@ -1,2 +1,0 @@
-pub mod Responding
-pub mod Printing

@@ -1,4 +1,0 @@
-pub mod Agreeing
-pub mod Loads
-pub mod Turns
-pub mod ResponseLaws

@@ -1,4 +1,0 @@
-pub mod Cycle
-pub mod Run
-pub mod HouseRule
-pub mod Responses
