@@ -1,4 +1,6 @@
 // The fixed list: what every call answers with, and the limits, each under one name.
+#![tactic(auto)]
+
 ghost use Rattle.std.specs.Prelude.{◌≡◌, ◌<◌, pos, nat_abs};
 ghost use Rattle.answers.specs.Answers.{refusal, answer};
 ghost use Rattle.answers.specs.Limits.{max_detail, outside};

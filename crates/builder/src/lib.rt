@@ -1,4 +1,6 @@
 // The builder: one cell placed by the exchange, and the build that repeats it.
+#![tactic(auto)]
+
 mod cell;
 mod filling;
 mod run;

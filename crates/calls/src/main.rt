@@ -1,4 +1,6 @@
 // Makes calls from a fixed sequence of numbers and prints a line for each, so that another program that makes the same calls can be compared.
+#![tactic(auto)]
+
 mod buffers;
 mod cycle_calls;
 mod digest;

@@ -1,5 +1,7 @@
 // Runs cases of the documents: those that are not proved of the definitions, the limits of the frame, of the links and of the shore network, and entries
 // without a count. Prints a line for each: what was asked, number, comma, detail; or what was lent, and the number in it.
+#![tactic(auto)]
+
 use answers::{Answer, MAX_CYCLE_LINKS, MAX_FRAME, MAX_MESSAGES, MAX_PORTS};
 use forwarding::Running;
 use libc::STDOUT_FILENO;

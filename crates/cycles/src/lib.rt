@@ -1,5 +1,7 @@
 // Elementary cycles of the shore network: which messages a cycle takes, what responses they have over a run of cycles, and the least
 // TRD. Windows, sizes, sets of links, releases and responses are lent as lists; a refusal changes nothing.
+#![tactic(auto)]
+
 ghost use Rattle.std.specs.Prelude.{◌≡◌, not, ◌||◌, eqb, ltb};
 ghost use Rattle.answers.specs.Limits.{max_cycles, outside};
 ghost use Rattle.cycles.specs.Cycle.{network};

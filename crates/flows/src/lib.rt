@@ -1,4 +1,6 @@
 // The flow list: three 16-bit numbers a flow, input, output and cells per frame. Whoever reads a list reads it through these functions.
+#![tactic(auto)]
+
 ghost use Rattle.std.specs.Prelude.{◌≡◌, ◌+◌, ◌-◌, ◌*◌, ◌<◌, ◌≤◌, get_or};
 ghost use Rattle.answers.specs.Limits.{max_ports};
 ghost use Rattle.answers.specs.Lowest.{lowest};

@@ -1,5 +1,7 @@
 // The forwarding core: a fresh start, offers and slots. The record goes in and comes back by value; the waiting counts and
 // the sent buffer are lent. A refusal changes nothing.
+#![tactic(auto)]
+
 ghost use Rattle.std.specs.Prelude.{◌+◌, ◌≤◌, ◌<◌, ◌≡◌, length, replicate};
 ghost use Rattle.answers.specs.Limits.{max_detail};
 ghost use Rattle.answers.specs.Lowest.{lowest};

@@ -1,4 +1,6 @@
 // Delay margins, link room, period fit and the cells of a message. A margin or a room below zero is an answer, not an error.
+#![tactic(auto)]
+
 ghost use Rattle.std.specs.Prelude.{◌≡◌, ◌<◌, ◌≤◌, pos, ◌-ℤ◌, length};
 ghost use Rattle.answers.specs.Limits.{max_frame, max_links, max_deadline};
 ghost use Rattle.answers.specs.Lowest.{lowest};

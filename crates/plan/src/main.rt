@@ -1,4 +1,6 @@
 // The planner: a plan text on standard input, its answer and its table on standard output.
+#![tactic(auto)]
+
 mod respond;
 
 ghost use Rattle.std.specs.Prelude.{◌≤◌};

@@ -1,4 +1,6 @@
 // The plan text: one form, read and written. Keys are fixed byte strings that the reader compares and the writer emits.
+#![tactic(auto)]
+
 pub mod keys;
 pub mod lines;
 pub mod reader;
