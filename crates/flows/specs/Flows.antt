@@ -1,5 +1,5 @@
 -- The flow list: three numbers a flow, read through the accessors below and in no other way. Flows count from 1, in list order.
-use Rattle.std.specs.Prelude.{ℕ, suc, ◌+◌, ◌-◌, ◌*◌, ◌/◌, ◌%◌, ◌≤◌, ◌≡◌, Bool, true, not, cond, ◌||◌, List, [], ◌∷◌, pos, length, get_or, eqb, ltb}
+use Rattle.std.specs.Prelude.{ℕ, suc, ◌+◌, ◌-◌, ◌*◌, ◌/◌, ◌%◌, ◌≤◌, ◌≡◌, Bool, not, cond, ◌||◌, List, [], ◌∷◌, pos, length, get_or, eqb, ltb}
 use Rattle.answers.specs.declared.Answer.{Answer}
 use Rattle.answers.specs.Numbers.{FRAME_OUT_OF_RANGE, PORTS_OUT_OF_RANGE, LIST_MISSHAPEN, FLOW_OUT_OF_RANGE}
 use Rattle.answers.specs.Limits.{max_frame, max_ports, max_flows, outside, Within}
