@@ -2,7 +2,7 @@
 use Prim.Native.Nat.{ℕ, ◌*◌, ◌≤◌, ◌<◌}
 use mathlib.Core.Path.{◌≡◌, sym, ◌∙◌, ap}
 use mathlib.Core.Bool.{Bool, cond}
-use mathlib.Core.List.{List, ◌∷◌}
+use mathlib.Core.List.{List}
 use borrow.Author.Tests.{lt-ltb, le-ltb}
 use lib.ListN.{length}
 use lib.IntN.{pos}
@@ -11,7 +11,7 @@ use Rattle.answers.specs.Numbers.{DONE, TABLE_TOO_SHORT}
 use Rattle.answers.specs.Limits.{max_frame, max_ports}
 use Rattle.answers.specs.Answers.{refusal, done_with, first}
 use Rattle.answers.proofs.First.{refusal_passed_on, goes_on}
-use Rattle.flows.specs.Flows.{InRange, list_rules, list_answer}
+use Rattle.flows.specs.Flows.{list_rules, list_answer}
 use Rattle.flows.proofs.Shape.{listed}
 use Rattle.tables.proofs.Places.{size_of}
 use Rattle.tables.specs.Check.{entry_rules, table_rules, entries_answer, check_answer, Holds}

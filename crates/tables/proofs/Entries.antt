@@ -1,14 +1,12 @@
 -- What the three searches over a table's entries found, and the answer that it makes.
-use Prim.Native.Nat.{ℕ, suc, ◌+◌, ◌*◌, ◌≤◌, ◌<◌}
-use mathlib.Core.Path.{◌≡◌, ◌∙◌, ap}
-use mathlib.Core.Bool.{Bool, cond}
-use mathlib.Core.List.{List, [], ◌∷◌}
+use Prim.Native.Nat.{ℕ, ◌*◌, ◌≤◌, ◌<◌}
+use mathlib.Core.Path.{◌≡◌, ◌∙◌}
+use mathlib.Core.List.{List}
 use native.Mathlib.Omega.{arith}
 use lib.IntN.{pos}
-use Rattle.answers.specs.declared.Answer.{Answer}
 use Rattle.answers.specs.Numbers.{ENTRY_NOT_OF_ROW, INPUT_TWICE_IN_SLOT, COUNT_WRONG}
 use Rattle.answers.specs.Lowest.{lowest}
-use Rattle.answers.specs.Answers.{answer, refusal, done_with, naming_lowest, first}
+use Rattle.answers.specs.Answers.{answer, done_with}
 use Rattle.answers.proofs.First.{lowest_named, lowest_passed}
 use Rattle.flows.specs.Flows.{flow_count}
 use Rattle.tables.specs.Check.{not_of_row, input_twice, count_wrong, entries_answer}

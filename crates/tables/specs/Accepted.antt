@@ -1,7 +1,7 @@
 -- What a table is, and when it is accepted for a list. Every table, built or brought in, is judged by this one definition.
-use Rattle.std.specs.Prelude.{ℕ, suc, ◌+◌, ◌*◌, ◌/◌, ◌<◌, ◌≡◌, ◌⊎◌, Bool, true, List, get_or, eqb}
+use Rattle.std.specs.Prelude.{ℕ, suc, ◌+◌, ◌*◌, ◌/◌, ◌<◌, ◌≡◌, ◌⊎◌, true, List, get_or, eqb}
 use Rattle.answers.specs.Sums.{sum, one}
-use Rattle.flows.specs.Flows.{IsFlow, flow_count, input_of, cells_of, goes_to}
+use Rattle.flows.specs.Flows.{IsFlow, input_of, cells_of, goes_to}
 
 -- what stands in row r at slot s: rows and slots count from 0, M bytes a row, and row r is output r + 1's
 abbrev pub entry : ℕ → List ℕ → ℕ → ℕ → ℕ
