@@ -15,9 +15,9 @@ use Rattle.answers.specs.Sums.{sum, one}
 use Rattle.answers.proofs.Lowest.{somewhere_false}
 use Rattle.answers.proofs.Ranges.{either_false}
 use Rattle.answers.proofs.Sums.{sum_less, count_at_most}
-use Rattle.cycles.specs.Cycle.{Network, messages, taken}
+use Rattle.cycles.specs.Cycle.{Network, messages}
 use Rattle.cycles.specs.Judging.{message_above_window, network_answer}
-use Rattle.cycles.specs.Run.{STILL_WAITING, RELEASED_PAST_RUN, release_of, waits, taken_before, ready_in, taken_in, mark_for, cycles_through, response_of}
+use Rattle.cycles.specs.Run.{STILL_WAITING, RELEASED_PAST_RUN, release_of, taken_before, ready_in, taken_in, mark_for, cycles_through, response_of}
 use Rattle.cycles.specs.HouseRule.{SameDownTo}
 use Rattle.cycles.specs.Responses.{ResponseCounts, MarkedWaiting, MarkedPast, LowerDoNotDelay, ResponseBounded}
 use Rattle.cycles.proofs.Agreeing.{lower_do_not_count}
