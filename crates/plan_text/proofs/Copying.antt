@@ -1,11 +1,11 @@
 -- A list copied to the front of a buffer, element by element.
-use Prim.Native.Nat.{ℕ, suc, ◌+◌, ◌≤◌, ◌<◌}
+use Prim.Native.Nat.{ℕ, ◌+◌, ◌≤◌, ◌<◌}
 use mathlib.Core.Path.{◌≡◌, sym, ◌∙◌, ap}
-use mathlib.Core.List.{List, [], ◌++◌}
+use mathlib.Core.List.{List, ◌++◌}
 use native.Mathlib.Omega.{arith}
 use native.Mathlib.Nat.{zero-add}
 use native.Mathlib.Numerals.{add-one}
-use lib.ListN.{length, get_or, take, drop, set}
+use lib.ListN.{length, get_or, drop, set}
 use lib.Seq.{paste, paste-suc, length-paste, take-length}
 use Rattle.plan_text.specs.Plans.{over}
 

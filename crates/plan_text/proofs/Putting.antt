@@ -7,7 +7,7 @@ use native.Mathlib.Nat.{add-zero, zero-add}
 use native.Mathlib.Numerals.{add-one}
 use lib.ListN.{length, get_or, take, drop, set, length-append, length-set, take-append-drop}
 use lib.Seq.{take-suc, take-suc-set, take-length, drop-set-lt, drop-drop}
-use Rattle.plan_text.specs.Digits.{zero_byte, digits}
+use Rattle.plan_text.specs.Digits.{digits}
 use Rattle.plan_text.specs.Plans.{Put, over}
 use Rattle.plan_text.proofs.Digits.{digits_small, digits_more}
 

@@ -1,24 +1,22 @@
 -- How reading comes to its answer: the text's length first, then its form, then its numbers.
-use Prim.Native.Nat.{ℕ, zero, suc, min, ◌+◌, ◌≤◌, ◌<◌}
+use Prim.Native.Nat.{ℕ, min, ◌≤◌, ◌<◌}
 use mathlib.Core.Path.{◌≡◌, refl, sym, ◌∙◌, ap}
-use mathlib.Core.Bool.{Bool, true, false, not, cond, ◌&&◌, true≢false}
-use mathlib.Core.List.{List, [], ◌∷◌}
+use mathlib.Core.Bool.{Bool, true, false, not, cond, ◌&&◌}
+use mathlib.Core.List.{List}
 use native.Mathlib.Omega.{arith}
 use borrow.Author.Tests.{lt-ltb, le-ltb, eq-eqb, ne_eqb}
-use lib.Dec.{ltb, eqb}
+use lib.Dec.{ltb}
 use lib.IntN.{pos}
-use lib.ListN.{length, get_or, take, drop, length-map}
+use lib.ListN.{length, take, length-map}
 use Rattle.answers.specs.declared.Answer.{Answer}
 use Rattle.answers.specs.Numbers.{TEXT_TOO_LONG, TEXT_NOT_OF_FORM}
 use Rattle.answers.specs.Limits.{max_text}
-use Rattle.answers.specs.Answers.{answer, refusal, done_with, first}
-use Rattle.flows.specs.Flows.{flow_count}
-use Rattle.plan_text.specs.declared.reading.Plan.{Plan}
+use Rattle.answers.specs.Answers.{answer, refusal}
 use Rattle.plan_text.specs.declared.reading.HowFar.{HowFar}
 use Rattle.plan_text.specs.Reading.{start, lived, past_all, numbers_in, may_end, is_of_form, frame_in, ports_in, list_in}
 use Rattle.plan_text.proofs.Running.{lived_most}
 use Rattle.plan_text.proofs.Recognised.{two_numbers}
-use Rattle.plan_text.specs.Plans.{plan_of, plan_if_done, over_if_done, take_rules, take_answer, taken_plan, taken_into, read_answer, read_plan, read_into, max_word, in_words, Scanned}
+use Rattle.plan_text.specs.Plans.{plan_of, plan_if_done, over_if_done, take_answer, taken_plan, taken_into, read_answer, read_plan, read_into, max_word, in_words, Scanned}
 
 module _ (text : List ℕ) where
   -- the answer: over its limit, else not of the form, else as its numbers are taken over

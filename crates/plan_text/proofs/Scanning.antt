@@ -1,15 +1,14 @@
 -- The scan of a text: what has been read and kept so far, and what is left, make up what the whole text holds.
-use Prim.Native.Nat.{ℕ, zero, suc, min, ◌+◌, ◌≤◌, ◌<◌}
+use Prim.Native.Nat.{ℕ, suc, min, ◌+◌, ◌≤◌, ◌<◌}
 use mathlib.Core.Path.{◌≡◌, refl, sym, ◌∙◌, ap, subst}
 use mathlib.Core.Bool.{Bool, true, false, cond}
-use mathlib.Core.List.{List, [], ◌∷◌, ◌++◌, map, append_assoc, append-nil}
+use mathlib.Core.List.{List, [], ◌∷◌, ◌++◌, append_assoc, append-nil}
 use native.Mathlib.Omega.{arith}
 use native.Mathlib.Nat.{add-zero, zero-add}
 use native.Mathlib.Numerals.{add-one}
 use lib.ListN.{length, get_or, take, drop, set, length-set}
 use lib.Seq.{drop-cons, drop-length, take-suc-set}
 use Rattle.plan_text.specs.declared.reader.Reader.{Reader}
-use Rattle.plan_text.specs.declared.reading.HowFar.{HowFar}
 use Rattle.plan_text.specs.Reading.{start, takes, past, ends_number, lived, past_all, numbers_in}
 use Rattle.plan_text.specs.Plans.{max_word, in_words, Scanned}
 use Rattle.plan_text.proofs.Standing.{Standing, stands_start, stands_past}

@@ -1,5 +1,5 @@
 -- The form of a plan text: frame, ports, then none or more flows, a line each, in this order and nothing else.
-use Rattle.std.specs.Prelude.{ℕ, ◌+◌, ◌*◌, ◌≤◌, ◌≡◌, List, [], ◌∷◌, ◌++◌, length, take}
+use Rattle.std.specs.Prelude.{ℕ, ◌*◌, ◌≤◌, ◌≡◌, List, [], ◌∷◌, ◌++◌, length, take}
 use Rattle.flows.specs.Flows.{per_flow, flow_count}
 use Rattle.plan_text.specs.Digits.{digits}
 

@@ -6,7 +6,7 @@ ghost use Rattle.plan_text.specs.Reading.{key_of, end_of, next_field, is_input, 
 use crate::keys::{COMMA, FLOW_KEY, FRAME_KEY, LINE_FEED, MAX_NUMBER, PORTS_KEY, ZERO_BYTE};
 
 // The numbers of a plan text, in the order of their coming; the last three come again with each flow.
-#[derive(Drop)]
+#[derive(Clone, Copy)]
 pub enum Field {
     Frame,
     Ports,
@@ -82,7 +82,7 @@ fn is_input(field: Field) -> bool
 }
 
 // Where the reading stands: in which field, how many bytes of its key have come, whether its number has begun, and the number so far.
-#[derive(Drop)]
+#[derive(Clone, Copy)]
 pub struct Reader {
     pub field: Field,
     pub matched: usize,
