@@ -80,8 +80,8 @@ fn put_flow(out: &mut [u8], at: usize, input: usize, output: usize, cells: usize
 
 // Puts the lines of the flows from the first on.
 fn put_flows(out: &mut [u8], at: usize, list: &[u16]) -> usize
-    requires list_in_bounds { at + length (flow_lines list.now) ≤ length out.old }
-    requires list_len { length list.now ≡ per_flow * flow_count list.now }
+    requires room { at + length (flow_lines list.now) ≤ length out.old }
+    requires threes { length list.now ≡ per_flow * flow_count list.now }
     ensures { Put out.old at (flow_lines list.now) out.new result }
 {
     let count = flows::flow_count(list);
@@ -100,8 +100,8 @@ fn put_flows(out: &mut [u8], at: usize, list: &[u16]) -> usize
 
 // Puts the text of a plan at the front of a buffer; hands back its length.
 fn put_plan(frame: usize, ports: usize, list: &[u16], out: &mut [u8]) -> usize
-    requires list_in_bounds { length (text_of_plan frame ports list.now) ≤ length out.old }
-    requires list_len { length list.now ≡ per_flow * flow_count list.now }
+    requires room { length (text_of_plan frame ports list.now) ≤ length out.old }
+    requires threes { length list.now ≡ per_flow * flow_count list.now }
     ensures { Put out.old 0 (text_of_plan frame ports list.now) out.new result }
 {
     let second = put_line(out, 0, &FRAME_KEY, frame);

@@ -5,16 +5,16 @@ use native.Mathlib.Omega.{arith}
 use Rattle.plan_text.proofs.writing.put_plan.Goals as goal
 
 pub put_line-second-requires : goal.put_line-second-requires
-put_line-second-requires c = omega (arith, plan_length c.args.frame c.args.ports c.args.list.now, c.requires.list_in_bounds)
+put_line-second-requires c = omega (arith, plan_length c.args.frame c.args.ports c.args.list.now, c.requires.room)
 
 pub put_line-third-requires : goal.put_line-third-requires
-put_line-third-requires c = omega (arith, plan_length c.args.frame c.args.ports c.args.list.now, c.requires.list_in_bounds, c.put_line-second.ensures.next_is, c.put_line-second.auto.out)
+put_line-third-requires c = omega (arith, plan_length c.args.frame c.args.ports c.args.list.now, c.requires.room, c.put_line-second.ensures.next_is, c.put_line-second.auto.out)
 
 pub put_flows-requires : goal.put_flows-requires
 put_flows-requires c =
     record {
-      list_in_bounds = omega (arith, plan_length c.args.frame c.args.ports c.args.list.now, c.requires.list_in_bounds, c.put_line-second.ensures.next_is, c.put_line-second.auto.out, c.put_line-third.ensures.next_is, c.put_line-third.auto.out);
-      list_len = c.requires.list_len;
+      room = omega (arith, plan_length c.args.frame c.args.ports c.args.list.now, c.requires.room, c.put_line-second.ensures.next_is, c.put_line-second.auto.out, c.put_line-third.ensures.next_is, c.put_line-third.auto.out);
+      threes = c.requires.threes;
     }
 
 pub returns : goal.returns

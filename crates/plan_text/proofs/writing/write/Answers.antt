@@ -23,8 +23,8 @@ pub put_plan-n-requires : goal.put_plan-n-requires
 put_plan-n-requires c =
     let r = listed c.args.frame c.args.ports c.args.list.now _ c.list_answer-listed.ensures c.if-listed-ne-DONE.false in
     record {
-      list_in_bounds = text_fits c.args.frame c.args.ports c.args.list.now r;
-      list_len = r.good_list.of_threes;
+      room = text_fits c.args.frame c.args.ports c.args.list.now r;
+      threes = r.good_list.of_threes;
     }
 
 pub returns-then-out-n : goal.returns-then-out-n
