@@ -19,7 +19,7 @@ pub mod record;
 
 // The running record: the frame and the ports that a fresh start took, and the position of the next slot.
 #[repr(C)]
-#[derive(Drop)]
+#[derive(Clone, Copy)]
 pub struct Running {
     pub frame: usize,
     pub ports: usize,

@@ -1,0 +1,23 @@
+-- `forwarding::serve` meets its contract. The loop's invariant: counts and bytes are those after the outputs passed.
+use Prim.Native.Nat.{ℕ, ◌-◌, ◌≤◌}
+use mathlib.Core.Path.{◌≡◌}
+use mathlib.Core.List.{List}
+use lib.ListN.{length}
+use Rattle.answers.specs.Buffers.{written}
+use Rattle.forwarding.specs.declared.Running.{Running}
+use Rattle.forwarding.specs.Forwarding.{entries_now, served, output_byte}
+use Rattle.forwarding.proofs.serve.Given as goal
+
+-- the first j outputs are served
+pub record Served (running : Running) (table waiting₀ sent₀ waiting sent : List ℕ) (j : ℕ) : Type 0 where
+  pub below : j ≤ running.ports
+  pub same_counts : length waiting ≡ length waiting₀
+  pub same_room : length sent ≡ length sent₀
+  pub counts : waiting ≡ served j (entries_now running table) waiting₀
+  pub bytes : sent ≡ written j (output_byte (entries_now running table) waiting₀) sent₀
+
+abbrev pub invariant-loop-j : goal.invariant-loop-j
+invariant-loop-j l = Served l.running l.table l.initial.waiting l.initial.sent l.waiting l.sent l.j
+
+abbrev pub decreases-loop-j : goal.decreases-loop-j
+decreases-loop-j l = l.running.ports - l.j
