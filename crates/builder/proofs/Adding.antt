@@ -30,9 +30,9 @@ found_there count test s l t =
     let u = ltb-true (lowest 0 count test) (0 + count) (somewhere_test 0 count test s (omega arith) (omega arith) t) in
     (omega arith, (lowest_found 0 count test).there u)
 
-pub free_of_row : (M : ℕ) (T : List ℕ) (r s : ℕ) → s < M → entry M T r s ≡ 0 → (free_of_row M T r < M) × (entry M T r (free_of_row M T r) ≡ 0)
+pub free_of_row_lem : (M : ℕ) (T : List ℕ) (r s : ℕ) → s < M → entry M T r s ≡ 0 → (free_of_row M T r < M) × (entry M T r (free_of_row M T r) ≡ 0)
 unfolding free_of_row
-free_of_row M T r s l e =
+free_of_row_lem M T r s l e =
     let f = found_there M (empty_at M T r) s l (eq-eqb (entry M T r s) 0 e) in
     (f.0, eqb-true _ _ f.1)
 
@@ -48,11 +48,11 @@ module _ (M N : ℕ) (L T : List ℕ) (i : ℕ) (some : i ≡ 0 → ⊥) where
   not_used s h r l d e =
       eqb-false _ _ (somewhere_false 0 N (λ x. eqb (input_at L (entry M T x s)) i) h r (omega arith) (omega arith)) (input_at_flow L (entry M T r s) d ∙ e)
 
-  pub free_of_input : (s : ℕ) → s < M → ((r : ℕ) → r < N → (entry M T r s ≡ 0 → ⊥) → input_of L (entry M T r s) ≡ i → ⊥)
+  pub free_of_input_lem : (s : ℕ) → s < M → ((r : ℕ) → r < N → (entry M T r s ≡ 0 → ⊥) → input_of L (entry M T r s) ≡ i → ⊥)
       → (free_of_input M N L T i < M)
       × ((r : ℕ) → r < N → (entry M T r (free_of_input M N L T i) ≡ 0 → ⊥) → input_of L (entry M T r (free_of_input M N L T i)) ≡ i → ⊥)
   unfolding free_of_input
-  free_of_input s l h =
+  free_of_input_lem s l h =
       let f = found_there M (λ t. not (input_used M N L T i t)) s l (ap not (used_not s h)) in
       (f.0, not_used _ (not-true _ f.1))
 
@@ -104,12 +104,12 @@ module _ (w M N : ℕ) (L : List ℕ) (k : ℕ) (T : List ℕ) (room : N ≤ w) 
       outs : (p < M) × (entry M T j p ≡ 0)
       outs =
           let at = free_at_row M N L' T acc j row_in (subst (λ (x : ℕ). output_load L' x < M) (same.same_outputs k ∙ row_out) out-room) in
-          free_of_row M T j at.0 at.1 at.2
+          free_of_row_lem M T j at.0 at.1 at.2
 
       ins : (q < M) × ((r : ℕ) → r < N → (entry M T r q ≡ 0 → ⊥) → input_of L (entry M T r q) ≡ input_of L k → ⊥)
       ins =
           let at = free_at_input M N L' T acc (input_of L' k) in-room in
-          free_of_input M N L T (input_of L k) (λ z. omega (arith, (ports.inputs k flow).at_least)) at.0 at.1
+          free_of_input_lem M N L T (input_of L k) (λ z. omega (arith, (ports.inputs k flow).at_least)) at.0 at.1
           (λ r l d e. at.2 r l d (same.same_inputs (entry M T r at.0) ∙ e ∙ sym (same.same_inputs k)))
 
       chosen : with_cell w M N L k T ≡ put_cell w M N L k p q j T
