@@ -2,7 +2,7 @@
 use Prim.Native.Nat.{ℕ, suc, ◌+◌, ◌*◌, ◌≤◌, ◌<◌}
 use mathlib.Core.Path.{◌≡◌, refl, sym, ◌∙◌, ap, subst}
 use mathlib.Core.Bool.{Bool, cond}
-use mathlib.Core.List.{List, [], ◌∷◌, ◌++◌}
+use mathlib.Core.List.{List, []}
 use native.Mathlib.Omega.{arith}
 use borrow.Author.Tests.{lt-ltb, le-ltb, ltb-false}
 use lib.ListN.{length, drop, length-replicate}
@@ -11,7 +11,7 @@ use lib.Dec.{ltb}
 use Rattle.answers.specs.declared.Answer.{Answer}
 use Rattle.answers.specs.Numbers.{DONE, INPUT_OVERLOADED, OUTPUT_OVERLOADED, TABLE_TOO_SHORT}
 use Rattle.answers.specs.Limits.{max_frame, max_ports}
-use Rattle.answers.specs.Answers.{answer, refusal, done_with, first}
+use Rattle.answers.specs.Answers.{answer, refusal, done_with}
 use Rattle.answers.specs.Lowest.{lowest}
 use Rattle.answers.proofs.Lowest.{somewhere_false}
 use Rattle.answers.proofs.First.{NoneHolds, lowest_named, lowest_passed, refusal_passed_on, goes_on, none_of_them}

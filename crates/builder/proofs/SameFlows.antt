@@ -7,10 +7,9 @@ use native.Mathlib.Omega.{arith}
 use lib.Dec.{eqb}
 use lib.ListN.{length-set}
 use lib.Seq.{get_or-set_same, get_or-set_other}
-use Rattle.answers.specs.Sums.{one}
 use Rattle.flows.specs.Flows.{per_flow, IsFlow, input_of, cells_of}
 use Rattle.tables.specs.Accepted.{entry, times, FlowOf, Accepted}
-use Rattle.builder.specs.AddCell.{with_cells, SameFlows, PortsInRange}
+use Rattle.builder.specs.AddCell.{with_cells, SameFlows}
 
 pub same_self : (L : List ℕ) → SameFlows L L
 same_self L = record { same_length = refl; same_inputs = λ k. refl; same_outputs = λ k. refl }

@@ -1,5 +1,4 @@
 -- `builder::run::row_holding` meets its contract: the loop is a search for the lowest row.
-use Prim.Native.Nat.{◌-◌}
 use mathlib.Core.Path.{sym, ◌∙◌}
 use native.Mathlib.Omega.{arith}
 use Rattle.answers.proofs.Lowest.{search_hit, search_end}

@@ -1,5 +1,4 @@
 -- `builder::slots::input_used` meets its contract: the loop is a search for a row that holds the input.
-use Prim.Native.Nat.{◌-◌}
 use mathlib.Core.Path.{sym, ◌∙◌}
 use native.Mathlib.Omega.{arith}
 use borrow.Author.Tests.{eq-eqb}

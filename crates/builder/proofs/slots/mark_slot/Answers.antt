@@ -1,5 +1,4 @@
 -- `builder::slots::mark_slot` meets its contract: each turn makes one input's mark.
-use Prim.Native.Nat.{◌-◌}
 use mathlib.Core.Path.{◌∙◌}
 use native.Mathlib.Omega.{arith}
 use lib.ListN.{length-set}
