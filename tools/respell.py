@@ -4,7 +4,7 @@
 usage: tools/respell.py        at the top of the repository, once, after port.py
 
 Types keep upper camel case. Everything else becomes snake case: `maxFrame` is `max_frame`, `FRAME-OUT-OF-RANGE` is `FRAME_OUT_OF_RANGE`.
-A dash stays only in a lemma's name, and only where it joins names of definitions, as in `written-length`.
+A dash stays only in a lemma's name, and only where it joins a definition's name and a list's word, as in `written-length`.
 Names of src/ stay as they are, and so do comments, strings, inputs and outputs. Names that would fall together get the names of APART.
 It goes by text and says what it renamed; rt check decides.
 """
@@ -77,7 +77,7 @@ def renamed(root):
             continue
         new = snake(n)
         parts = [snake(p) for p in n.split("-")]
-        if len(parts) > 1 and n not in definitions and all(p in words for p in parts):
+        if len(parts) > 1 and n not in definitions and all(p in words for p in parts) and any(p in WORDS for p in parts):
             new = "-".join(parts)
         if new != n:
             table[n] = new

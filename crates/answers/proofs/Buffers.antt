@@ -24,10 +24,10 @@ module _ (f : ℕ → ℕ) (B : List ℕ) where
   written-length zero = refl
   written-length (suc n) = length-set (written n f B) n (f n) ∙ written-length n
 
-  pub written-past : (n k : ℕ) → n ≤ k → get_or (written n f B) k 0 ≡ get_or B k 0
+  pub written_past : (n k : ℕ) → n ≤ k → get_or (written n f B) k 0 ≡ get_or B k 0
   unfolding written
-  written-past zero k l = refl
-  written-past (suc n) k l = get_or-set_other (written n f B) n k (f n) 0 (λ e. omega arith) ∙ written-past n k (omega arith)
+  written_past zero k l = refl
+  written_past (suc n) k l = get_or-set_other (written n f B) n k (f n) 0 (λ e. omega arith) ∙ written_past n k (omega arith)
 
   pub written_at : (n k : ℕ) → k < n → n ≤ length B → get_or (written n f B) k 0 ≡ f k
   unfolding written
@@ -48,7 +48,7 @@ module _ (f : ℕ → ℕ) (B : List ℕ) where
     where
       at : (k : ℕ) → Dec (k < n) → get_or A k 0 ≡ get_or (written n f B) k 0
       at k (yes l) = here k l ∙ sym (written_at n k l room)
-      at k (no d) = past k (omega arith) ∙ sym (written-past n k (omega arith))
+      at k (no d) = past k (omega arith) ∙ sym (written_past n k (omega arith))
 
 pub written_agree : (f g : ℕ → ℕ) (B : List ℕ) (n : ℕ) → ((k : ℕ) → k < n → f k ≡ g k) → written n f B ≡ written n g B
 unfolding written
@@ -62,7 +62,7 @@ pub written_again : (f g : ℕ → ℕ) (B : List ℕ) (n : ℕ) → n ≤ lengt
 written_again f g B n room =
     written_is g B n (written n g (written n f B)) room (written-length g (written n f B) n ∙ same)
     (λ k l. written_at g (written n f B) n k l (omega (arith, same)))
-    (λ k l. written-past g (written n f B) n k l ∙ written-past f B n k l)
+    (λ k l. written_past g (written n f B) n k l ∙ written_past f B n k l)
   where
     same : length (written n f B) ≡ length B
     same = written-length f B n

@@ -18,7 +18,7 @@ use Rattle.answers.proofs.Sums.{sum_change, term_le}
 use Rattle.tables.specs.Accepted.{entry}
 use Rattle.builder.specs.Exchange.{input_at, swapped, unseen, holds_next, next_row, from_input, run}
 use Rattle.builder.proofs.Exchange.{Clean, Free, Ready, RowSwapped, RowMarked, q_clean_after, p_clean_after, ready_next, free_after}
-use Rattle.builder.proofs.Places.{same_row, same_slot, in_table, length-swapped, swapped-first, swapped_second, swapped_else}
+use Rattle.builder.proofs.Places.{same_row, same_slot, in_table, length-swapped, swapped_first, swapped_second, swapped_else}
 
 -- the input that row r holds at slot s; past the last row there is none
 abbrev pub who : ℕ → ℕ → List ℕ → List ℕ → ℕ → ℕ → ℕ
@@ -122,7 +122,7 @@ module _ (M N : ℕ) (L : List ℕ) (p q : ℕ) (lp : p < M) (lq : q < M) where
   -- one row's swap, as lists
   module _ (r : ℕ) (T : List ℕ) (lr : r < N) (len : N * M ≤ length T) where
     there_p : entry M (swapped T (r * M + p) (r * M + q)) r p ≡ entry M T r q
-    there_p = swapped-first T (r * M + p) (r * M + q) (in_table T len lr lp) (in_table T len lr lq)
+    there_p = swapped_first T (r * M + p) (r * M + q) (in_table T len lr lp) (in_table T len lr lq)
 
     there_q : entry M (swapped T (r * M + p) (r * M + q)) r q ≡ entry M T r p
     there_q = swapped_second T (r * M + p) (r * M + q) (in_table T len lr lq)
@@ -230,13 +230,13 @@ module _ (M N : ℕ) (L : List ℕ) (p q : ℕ) (lp : p < M) (lq : q < M) where
         own_row = later.seen_stay r q lq (row_marked marks r lm).here ∙ there_q r T lr len;
       }
 
-  pub run-done : (n r : ℕ) (marks T : List ℕ) → r < N → N ≤ length marks → N * M ≤ length T → unseen N marks ≡ n
+  pub run_done : (n r : ℕ) (marks T : List ℕ) → r < N → N ≤ length marks → N * M ≤ length T → unseen N marks ≡ n
       → Ready (who M N L T p) (who M N L T q) (mark_of marks) r → RunDone M N L p q r marks T (run n M N L p q r marks T)
   unfolding run
-  run-done zero r marks T lr lm len e ready = absurd (omega (arith, unseen_some N marks r lr ready.fresh))
-  run-done (suc n) r marks T lr lm len e ready =
+  run_done zero r marks T lr lm len e ready = absurd (omega (arith, unseen_some N marks r lr ready.fresh))
+  run_done (suc n) r marks T lr lm len e ready =
       followed (eqb (came) 0) refl
-      (λ t lt rd. run-done n t (set marks r 1) (swapped T (r * M + p) (r * M + q)) lt (omega (arith, length-set marks r 1))
+      (λ t lt rd. run_done n t (set marks r 1) (swapped T (r * M + p) (r * M + q)) lt (omega (arith, length-set marks r 1))
       (omega (arith, length-swapped T (r * M + p) (r * M + q))) (omega (arith, unseen_mark N marks r lr (omega arith) ready.fresh)) rd)
     where
       lm' : r < length marks

@@ -96,8 +96,8 @@ module _ (M N : ℕ) (L T : List ℕ) (a : Answer) (e : a ≡ list_answer M N L)
           }
 
       -- the emptied table is where the filling starts, and the filled table is what is built
-      pub emptied-start : (T' : List ℕ) → T' ≡ emptied T (N * M) → SoFar M N L 1 0 T'
-      emptied-start T' x = subst (λ (t : List ℕ). SoFar M N L 1 0 t) (sym x) (empty_so_far M N L (emptied T (N * M)) (emptied_entries M N T))
+      pub emptied_start : (T' : List ℕ) → T' ≡ emptied T (N * M) → SoFar M N L 1 0 T'
+      emptied_start T' x = subst (λ (t : List ℕ). SoFar M N L 1 0 t) (sym x) (empty_so_far M N L (emptied T (N * M)) (emptied_entries M N T))
 
       pub built : (T' T'' U : List ℕ) → T' ≡ emptied T (N * M) → FilledTo M N L (suc (flow_count L)) 0 T' T'' U → Built M N L T T'' b
       built T' T'' U y z =
@@ -108,8 +108,8 @@ module _ (M N : ℕ) (L T : List ℕ) (a : Answer) (e : a ≡ list_answer M N L)
             beyond = z.beyond ∙ ap (λ (t : List ℕ). drop (N * M) t) y ∙ emptied_beyond T (N * M);
           }
 
-      pub emptied-marked : (T' : List ℕ) → T' ≡ emptied T (N * M) → Marked M N L T' (no_marks (max_ports * max_frame))
-      emptied-marked T' x =
+      pub emptied_marked : (T' : List ℕ) → T' ≡ emptied T (N * M) → Marked M N L T' (no_marks (max_ports * max_frame))
+      emptied_marked T' x =
           let h = may_fill.table in
           subst (λ (t : List ℕ). Marked M N L t (no_marks (max_ports * max_frame))) (sym x)
           (marked_empty M N L (emptied T (N * M)) (no_marks (max_ports * max_frame))

@@ -37,8 +37,8 @@ length-swapped T x y = simp length-set
 pub swapped_second : (T : List ℕ) (x y : ℕ) → y < length T → get_or (swapped T x y) y 0 ≡ get_or T x 0
 swapped_second T x y ly = get_or-set_same (set T x (get_or T y 0)) y (get_or T x 0) 0 (omega (arith, length-set T x (get_or T y 0)))
 
-pub swapped-first : (T : List ℕ) (x y : ℕ) → x < length T → y < length T → get_or (swapped T x y) x 0 ≡ get_or T y 0
-swapped-first T x y lx ly = go (ℕ_discrete x y)
+pub swapped_first : (T : List ℕ) (x y : ℕ) → x < length T → y < length T → get_or (swapped T x y) x 0 ≡ get_or T y 0
+swapped_first T x y lx ly = go (ℕ_discrete x y)
   where
     go : Dec (x ≡ y) → get_or (swapped T x y) x 0 ≡ get_or T y 0
     go (yes e) = ap (λ (z : ℕ). get_or (swapped T x y) z 0) e ∙ swapped_second T x y ly ∙ ap (λ (z : ℕ). get_or T z 0) e

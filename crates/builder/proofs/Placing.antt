@@ -17,7 +17,7 @@ use Rattle.builder.specs.Exchange.{input_at, unseen, run}
 use Rattle.builder.specs.AddCell.{PortsInRange}
 use Rattle.builder.proofs.Exchange.{Clean, Free, Ready}
 use Rattle.builder.proofs.Places.{in_table, stored_else}
-use Rattle.builder.proofs.Alternation.{who, who_in, who_out, mark_of, Exchanged, RunDone, run-done, run_exchanged}
+use Rattle.builder.proofs.Alternation.{who, who_in, who_out, mark_of, Exchanged, RunDone, run_done, run_exchanged}
 use Rattle.builder.proofs.Kept.{row_kept, times_kept, times_stored}
 use Rattle.builder.proofs.SameFlows.{Placed}
 
@@ -125,7 +125,7 @@ module _ (w M N : ℕ) (L T : List ℕ) (k p q j : ℕ) (room : N ≤ w) (lp : p
         }
 
     done : RunDone M N L p q j (no_marks w) T (turned w M N L p q j T)
-    done = run-done M N L p q lp lq (unseen N (no_marks w)) j (no_marks w) T lj (omega (arith, length-replicate {A = ℕ} w 0)) len refl start
+    done = run_done M N L p q lp lq (unseen N (no_marks w)) j (no_marks w) T lj (omega (arith, length-replicate {A = ℕ} w 0)) len refl start
 
     -- row j is empty at q now
     freed : entry M (turned w M N L p q j T) j q ≡ 0

@@ -21,13 +21,13 @@ use Rattle.cycles.proofs.Loads.{was_ready}
 use Rattle.cycles.proofs.Turns.{before_none, response_not, response_step, ready_told}
 
 -- bytes that were written for a test say what the test said
-marked-one : (b : Bool) → not (eqb (one b) 0) ≡ b
-marked-one true = refl
-marked-one false = refl
+marked_one : (b : Bool) → not (eqb (one b) 0) ≡ b
+marked_one true = refl
+marked_one false = refl
 
 marked_is : (n : ℕ) (f : ℕ → Bool) (B₀ B : List ℕ) → n ≤ length B₀ → B ≡ written n (λ i. one (f i)) B₀ → (i : ℕ) → i < n → marked B i ≡ f i
 marked_is n f B₀ B room e i u =
-    ap (λ (x : ℕ). not (eqb x 0)) (ap (λ (x : List ℕ). get_or x i 0) e ∙ written_at (λ j. one (f j)) B₀ n i u room) ∙ marked-one (f i)
+    ap (λ (x : ℕ). not (eqb x 0)) (ap (λ (x : List ℕ). get_or x i 0) e ∙ written_at (λ j. one (f j)) B₀ n i u room) ∙ marked_one (f i)
 
 module _ (w : Network) (R X : List ℕ) (t : ℕ) (same : length R ≡ messages w) (few : messages w ≤ max_messages)
     (B₀ ready T₀ T : List ℕ) (ready-room : length B₀ ≡ max_messages) (taken_room : length T₀ ≡ max_messages)
@@ -59,9 +59,9 @@ none_over w R X₀ X cycles same e =
     ∙ written_agree (λ i. mark_for (release_of R i) cycles) (response_by w R cycles 0) X₀ (messages w) (λ i u. sym (response_not w R i cycles 0 (before_none w R i)))
 
 -- one cycle more
-pub one-over : (w : Network) (R X₀ X X' : List ℕ) (cycles t : ℕ) → length R ≡ messages w → messages w ≤ length X₀ → cycles ≤ max_cycles → t < cycles
+pub one_over : (w : Network) (R X₀ X X' : List ℕ) (cycles t : ℕ) → length R ≡ messages w → messages w ≤ length X₀ → cycles ≤ max_cycles → t < cycles
     → X ≡ written (messages w) (response_by w R cycles t) X₀ → X' ≡ after_cycle w R t X → X' ≡ written (messages w) (response_by w R cycles (t + 1)) X₀
-one-over w R X₀ X X' cycles t same room few within so_far e =
+one_over w R X₀ X X' cycles t same room few within so_far e =
     e
     ∙ ap (λ (n : ℕ). written n after X) same
     ∙ written_agree after (response_by w R cycles (suc t)) X (messages w) (λ i u. next i u)

@@ -48,11 +48,11 @@ module _ (w : Network) (ready B X : List ℕ) {a : Answer} (e : a ≡ cycle_answ
       }
 
   pub cycle_refused : (a.number ≡ DONE → ⊥) → Cycled w ready B X a B X
-  cycle_refused d = record { answered = e; messages-taken = after_refused a _ _ B d; loads = after_refused a _ _ X d }
+  cycle_refused d = record { answered = e; messages_taken = after_refused a _ _ B d; loads = after_refused a _ _ X d }
 
   pub cycled : (B' X' : List ℕ) → a.number ≡ DONE → B' ≡ written (messages w) (λ i. one (taken w (marked ready) i)) B → X' ≡ written (links w) (load_of w (marked ready)) X
       → Cycled w ready B X a B' X'
-  cycled B' X' z b x = record { answered = e; messages-taken = after_done a _ _ B B' z b; loads = after_done a _ _ X X' z x }
+  cycled B' X' z b x = record { answered = e; messages_taken = after_done a _ _ B B' z b; loads = after_done a _ _ X X' z x }
 
 module _ (w : Network) (R : List ℕ) (cycles : ℕ) (X : List ℕ) {a : Answer} (e : a ≡ run_answer w R cycles (length X)) where
   pub run_sized : a.number ≡ DONE → RunSized w.windows w.sizes w.paths R X × (cycles ≤ max_cycles)
@@ -73,5 +73,5 @@ module _ (w : Network) (R : List ℕ) (cycles : ℕ) (X : List ℕ) {a : Answer}
   pub run_refused : (a.number ≡ DONE → ⊥) → RunOver w R cycles X a X
   run_refused d = record { answered = e; responses = after_refused a _ _ X d }
 
-  pub run-done : (X' : List ℕ) → a.number ≡ DONE → X' ≡ written (messages w) (response_of w R cycles) X → RunOver w R cycles X a X'
-  run-done X' z x = record { answered = e; responses = after_done a _ _ X X' z x }
+  pub run_done : (X' : List ℕ) → a.number ≡ DONE → X' ≡ written (messages w) (response_of w R cycles) X → RunOver w R cycles X a X'
+  run_done X' z x = record { answered = e; responses = after_done a _ _ X X' z x }

@@ -65,8 +65,8 @@ module _ (w : Network) (R : List ℕ) (cycles i : ℕ) (few : cycles ≤ max_cyc
 pub marked_waiting : MarkedWaiting
 marked_waiting w R cycles i few = waiting w R cycles i few
 
-pub marked-past : MarkedPast
-marked-past w R cycles i few = past w R cycles i few
+pub marked_past : MarkedPast
+marked_past w R cycles i few = past w R cycles i few
 
 -- what is the same down to i is so down to each message above
 down : {i j : ℕ} {w w' : Network} → j ≤ i → SameDownTo i w w' → SameDownTo j w w'

@@ -15,7 +15,7 @@ after_call a n f B = cond (is_done a) (written n f B) B
 -- one cycle in which the messages are ready that the list says; a byte for each message, 1 if it was taken and else 0, and each link's load
 pub record Cycled (w : Network) (ready B X : List ℕ) (a : Answer) (B' X' : List ℕ) : Type 0 where
   pub answered : a ≡ cycle_answer w ready (length B) (length X)
-  pub messages-taken : B' ≡ after_call a (messages w) (λ i. one (taken w (marked ready) i)) B
+  pub messages_taken : B' ≡ after_call a (messages w) (λ i. one (taken w (marked ready) i)) B
   pub loads : X' ≡ after_call a (links w) (load_of w (marked ready)) X
 
 -- a run of cycles from cycle 0 on; each message's response, or its mark

@@ -97,7 +97,7 @@ one (cycle w ready B X a B' X') t =
     let rest = second (same a (cycle_answer w ready (length B) (length X))) (same_list B' bytes && same_list X' loads) t in
     record {
       answered = same_answer a (cycle_answer w ready (length B) (length X)) (first (same a (cycle_answer w ready (length B) (length X))) (same_list B' bytes && same_list X' loads) t);
-      messages-taken = same_list_lem B' bytes (first (same_list B' bytes) (same_list X' loads) rest);
+      messages_taken = same_list_lem B' bytes (first (same_list B' bytes) (same_list X' loads) rest);
       loads = same_list_lem X' loads (second (same_list B' bytes) (same_list X' loads) rest);
     }
 one (run w R cycles X a X') t =

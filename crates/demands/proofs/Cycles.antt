@@ -40,8 +40,8 @@ response_counts = Responses.response_counts
 pub marked_waiting : MarkedWaiting
 marked_waiting = Responses.marked_waiting
 
-pub marked-past : MarkedPast
-marked-past = Responses.marked-past
+pub marked_past : MarkedPast
+marked_past = Responses.marked_past
 
 pub names_misshapen : NamesMisshapen
 names_misshapen = Named.names_misshapen

@@ -24,10 +24,10 @@ alike n f B p q x y = x ∙ ap (λ (e : Answer). after_call e n f B) (p ∙ sym 
 
 pub one_cycle : OneCycle
 one_cycle κ x a b l m p q =
-    (p.answered ∙ sym q.answered, (alike _ _ _ p.answered q.answered p.messages-taken q.messages-taken, alike _ _ _ p.answered q.answered p.loads q.loads))
+    (p.answered ∙ sym q.answered, (alike _ _ _ p.answered q.answered p.messages_taken q.messages_taken, alike _ _ _ p.answered q.answered p.loads q.loads))
 
-pub one-run : OneRun
-one-run κ x a b l m p q = (p.answered ∙ sym q.answered, alike _ _ _ p.answered q.answered p.responses q.responses)
+pub one_run : OneRun
+one_run κ x a b l m p q = (p.answered ∙ sym q.answered, alike _ _ _ p.answered q.answered p.responses q.responses)
 
 pub one_trd : OneTrd
 one_trd κ x a b l m p q = p ∙ sym q

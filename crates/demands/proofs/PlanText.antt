@@ -24,7 +24,7 @@ use Rattle.plan_text.specs.Reading.{start, lived, is_of_form, frame_in, ports_in
 use Rattle.plan_text.specs.Plans.{over, read_answer, read_plan, read_into, write_answer, written_into}
 use Rattle.plan_text.proofs.Recognised.{recognised_form, form_recognised, form_runs, form_plan}
 use Rattle.plan_text.proofs.Longest.{lived_longest}
-use Rattle.plan_text.proofs.Digits.{digits_of, all_digits, each_digit, digits_bytes, digits-first, digits-length, digits_small, digits_injective}
+use Rattle.plan_text.proofs.Digits.{digits_of, all_digits, each_digit, digits_bytes, digits_first, digits-length, digits_small, digits_injective}
 use Rattle.plan_text.proofs.RoundTrip.{ReadDone, read_done, write_done, frame_back, ports_back, list_back, reads, writes}
 use Rattle.demands.specs.PlanText.{IsNumber, NumbersWritten, WrittenOneWay, PlanA, AcceptsTheForm, FindsThePlan, TextOfThePlan, OnePlan, NamesLongest, list_read, frame_read, ports_read, text_written, ReadThenWrite, WriteThenRead}
 
@@ -38,7 +38,7 @@ numbers_written bytes = (out, back)
 
     number : (n : ℕ) → n ≤ max_number → IsNumber (digits n)
     number n l =
-        let first = digits-first n (omega arith) in
+        let first = digits_first n (omega arith) in
         record {
           all_digits = each_digit (digits n) (digits_bytes n (omega arith));
           some = first.there;

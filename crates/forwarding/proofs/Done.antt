@@ -74,9 +74,9 @@ pub done_or : (st : State) (c : Call) → Dec (Done st c)
 done_or st c = ℕ_discrete (answer_of st c).number DONE
 
 -- in what follows a is what the call answered
-pub step-done : (st : State) (c : Call) {a : Answer} → a ≡ answer_of st c → a.number ≡ DONE → step st c ≡ carried_out st c
+pub step_done : (st : State) (c : Call) {a : Answer} → a ≡ answer_of st c → a.number ≡ DONE → step st c ≡ carried_out st c
 unfolding step
-step-done st c e z = rw (eq-eqb (answer_of st c).number DONE (sym (ap (λ (x : Answer). x.number) e) ∙ z))
+step_done st c e z = rw (eq-eqb (answer_of st c).number DONE (sym (ap (λ (x : Answer). x.number) e) ∙ z))
 
 pub step_refused : (st : State) (c : Call) {a : Answer} → a ≡ answer_of st c → (a.number ≡ DONE → ⊥) → step st c ≡ st
 unfolding step

@@ -14,7 +14,7 @@ use Rattle.forwarding.specs.declared.Running.{Running}
 use Rattle.forwarding.specs.Forwarding.{waiting_of, fresh_start_answer, offer_answer, slot_answer}
 use Rattle.forwarding.specs.Histories.{State, Call, a_fresh_start, an_offer, a_slot, answer_of, done, carried_out, step, sent_by, accepted_by, fresh_start_by}
 use Rattle.forwarding.specs.Isolation.{SameBut, none_left, in_both, in_first, in_second, sees, trace, Isolation}
-use Rattle.forwarding.proofs.Done.{Done, done_or, step-done, step_refused}
+use Rattle.forwarding.proofs.Done.{Done, done_or, step_done, step_refused}
 use Rattle.forwarding.proofs.Keeping.{named, nothing, slot_sends, step-length, step_known, kept, start_empties}
 
 module _ (k : ℕ) where
@@ -88,9 +88,9 @@ module _ (k : ℕ) where
 
       records : Dec (Done st c) → (step st c).running ≡ (step st' c).running
       records (yes e) =
-          ap (λ (x : State). x.running) (step-done st c refl e)
+          ap (λ (x : State). x.running) (step_done st c refl e)
           ∙ same_carried a c
-          ∙ sym (ap (λ (x : State). x.running) (step-done st' c refl (sym (same c s) ∙ e)))
+          ∙ sym (ap (λ (x : State). x.running) (step_done st' c refl (sym (same c s) ∙ e)))
       records (no d) =
           ap (λ (x : State). x.running) (step_refused st c refl d)
           ∙ a.same_record
@@ -131,7 +131,7 @@ module _ (k : ℕ) where
       c = an_offer j n
 
       records : Dec (Done st (an_offer j n)) → (step st (an_offer j n)).running ≡ st.running
-      records (yes e) = ap (λ (x : State). x.running) (step-done st (an_offer j n) refl e)
+      records (yes e) = ap (λ (x : State). x.running) (step_done st (an_offer j n) refl e)
       records (no e) = ap (λ (x : State). x.running) (step_refused st (an_offer j n) refl e)
 
       none_for : (b : Bool) → cond b (cond (eqb j k) n 0) 0 ≡ 0
@@ -173,7 +173,7 @@ isolation k M N st st' h h' number known e s =
     let known' : Within 1 (length st'.waiting) k = record { at_least = known.at_least; at_most = omega (arith, number, known.at_most) } in
     alike_trace k s (step st start) (step st' start)
     (record {
-      same_record = ap (λ (x : State). x.running) (step-done st start refl here) ∙ sym (ap (λ (x : State). x.running) (step-done st' start refl there));
+      same_record = ap (λ (x : State). x.running) (step_done st start refl here) ∙ sym (ap (λ (x : State). x.running) (step_done st' start refl there));
       same_number = step-length st start ∙ number ∙ sym (step-length st' start);
       same_count = start_empties k st M N known here ∙ sym (start_empties k st' M N known' there);
       known = step_known k st start known;

@@ -12,7 +12,7 @@ use Rattle.answers.specs.Sums.{sum, one}
 use Rattle.forwarding.specs.declared.Running.{Running}
 use Rattle.forwarding.specs.Forwarding.{entries_now, waiting_of}
 use Rattle.forwarding.specs.Histories.{State, Call, a_fresh_start, an_offer, a_slot, answer_of, carried_out, step, sent_by, accepted_by, slot_by, fresh_start_by}
-use Rattle.forwarding.proofs.Done.{Done, Refused, done_or, offer_done, step-done, step_refused}
+use Rattle.forwarding.proofs.Done.{Done, Refused, done_or, offer_done, step_done, step_refused}
 use Rattle.forwarding.proofs.Cells.{served-length, served_is, sent_is, added_is}
 
 -- how many outputs have flow k's number at the record's position
@@ -45,7 +45,7 @@ pub step-length : (st : State) (c : Call) → length (step st c).waiting ≡ len
 step-length st c = go (done_or st c)
   where
     go : Dec (Done st c) → length (step st c).waiting ≡ length st.waiting
-    go (yes e) = ap (λ (s : State). length s.waiting) (step-done st c refl e) ∙ carried_length st c
+    go (yes e) = ap (λ (s : State). length s.waiting) (step_done st c refl e) ∙ carried_length st c
     go (no d) = ap (λ (s : State). length s.waiting) (step_refused st c refl d)
 
 pub step_known : (k : ℕ) (st : State) (c : Call) → Within 1 (length st.waiting) k → Within 1 (length (step st c).waiting) k
@@ -55,7 +55,7 @@ step_known k st c known = record { at_least = known.at_least; at_most = omega (a
 pub start_empties : (k : ℕ) (st : State) (M N : ℕ) → Within 1 (length st.waiting) k → Done st (a_fresh_start M N)
     → waiting_of (step st (a_fresh_start M N)).waiting k ≡ 0
 start_empties k st M N known e =
-    ap (λ (s : State). waiting_of s.waiting k) (step-done st (a_fresh_start M N) refl e)
+    ap (λ (s : State). waiting_of s.waiting k) (step_done st (a_fresh_start M N) refl e)
     ∙ get_or-replicate (length st.waiting) (k - 1) 0 0 (omega arith)
 
 module _ (k : ℕ) (st : State) (known : Within 1 (length st.waiting) k) where
@@ -75,13 +75,13 @@ module _ (k : ℕ) (st : State) (known : Within 1 (length st.waiting) k) where
           simp (eq-eqb _ _ e)
           (omega (
             arith,
-            ap (λ (s : State). waiting_of s.waiting k) (step-done st (an_offer j n) refl e),
+            ap (λ (s : State). waiting_of s.waiting k) (step_done st (an_offer j n) refl e),
             added_is k st.waiting j n (offer_done st.waiting j n refl e).known known,
           ))
       go (a_slot T n) (yes e) none =
           omega (
             arith,
-            ap (λ (s : State). waiting_of s.waiting k) (step-done st (a_slot T n) refl e),
+            ap (λ (s : State). waiting_of s.waiting k) (step_done st (a_slot T n) refl e),
             served_is k st.running.ports (entries_now st.running T) st.waiting known,
             slot_sends k st T n known e,
           )

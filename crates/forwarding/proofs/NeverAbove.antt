@@ -26,7 +26,7 @@ use Rattle.forwarding.specs.Forwarding.{entries_now, place_now, above_counts, fr
 use Rattle.forwarding.specs.Histories.{State, Call, a_fresh_start, an_offer, a_slot, answer_of, carried_out, step, total, fresh_start_by}
 use Rattle.forwarding.specs.Shares.{LentOnly}
 use Rattle.forwarding.specs.AboveCounts.{SlotAsked, WithoutCount, NamesEntry, SizesDecide, answered_with, NeverInWindow}
-use Rattle.forwarding.proofs.Done.{Done, done_or, slot_asked, step-done, step_refused}
+use Rattle.forwarding.proofs.Done.{Done, done_or, slot_asked, step_done, step_refused}
 use Rattle.forwarding.proofs.AboveCounts.{size_refused, sizes_asked, none_refused}
 use Rattle.forwarding.proofs.Keeping.{step-length}
 
@@ -108,8 +108,8 @@ module _ (L T : List ℕ) where
       go : (c : Call) → Dec (Done st c) → fresh_start_by st c ≡ 0 → AcceptedAt (step st c)
       go c (no d) none = after c st (step_refused st c refl d) f.accepted
       go (a_fresh_start M N) (yes e) none = absurd (omega (arith, ap one (eq-eqb (answer_of st (a_fresh_start M N)).number DONE e)))
-      go (an_offer k n) (yes e) none = after (an_offer k n) (carried_out st (an_offer k n)) (step-done st (an_offer k n) refl e) f.accepted
-      go (a_slot U n) (yes e) none = after (a_slot U n) (carried_out st (a_slot U n)) (step-done st (a_slot U n) refl e) f.accepted
+      go (an_offer k n) (yes e) none = after (an_offer k n) (carried_out st (an_offer k n)) (step_done st (an_offer k n) refl e) f.accepted
+      go (a_slot U n) (yes e) none = after (a_slot U n) (carried_out st (a_slot U n)) (step_done st (a_slot U n) refl e) f.accepted
 
   none_of_all : (st : State) (h : List Call) → InForce st → LentOnly T h → total fresh_start_by st h ≡ 0 → total (answered_with ENTRY_ABOVE_COUNTS) st h ≡ 0
   unfolding total

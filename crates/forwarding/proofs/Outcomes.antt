@@ -11,7 +11,7 @@ use Rattle.forwarding.specs.declared.Running.{Running}
 use Rattle.forwarding.specs.Forwarding.{entries_now, fresh_start_answer, offer_answer, slot_answer, added, served, output_byte}
 use Rattle.forwarding.specs.Histories.{State, Call, state_of, running_at, a_fresh_start, an_offer, a_slot, answer_of, advanced, step, outcome_of, sent_after}
 use Rattle.forwarding.specs.Promises.{outcome, FreshStarted, Offered, SlotServed}
-use Rattle.forwarding.proofs.Done.{step-done, step_refused}
+use Rattle.forwarding.proofs.Done.{step_done, step_refused}
 
 handed : (st : State) (c : Call) {a : Answer} {r : Running} {s : State} → a ≡ answer_of st c → r ≡ s.running → step st c ≡ s → outcome a r ≡ outcome_of st c
 unfolding outcome_of
@@ -25,7 +25,7 @@ module _ (r : Running) (M N : ℕ) (W : List ℕ) {a : Answer} (e : a ≡ fresh_
 
   pub started : {W' : List ℕ} → a.number ≡ DONE → W' ≡ replicate (length W) 0 → FreshStarted r M N W (outcome a (running_at M N 0)) W'
   started z w =
-      let after = step-done (state_of r W) (a_fresh_start M N) e z in
+      let after = step_done (state_of r W) (a_fresh_start M N) e z in
       record { handed_back = handed (state_of r W) (a_fresh_start M N) e refl after; counts = w ∙ sym (ap (λ (s : State). s.waiting) after) }
 
 module _ (W : List ℕ) (k n : ℕ) {a : Answer} (e : a ≡ offer_answer W k n) where
@@ -33,7 +33,7 @@ module _ (W : List ℕ) (k n : ℕ) {a : Answer} (e : a ≡ offer_answer W k n) 
   offer_refused d = record { answered = e; counts = λ r. sym (step_refused (state_of r W) (an_offer k n) e d) }
 
   pub offered : a.number ≡ DONE → Offered W k n a (added W k n)
-  offered z = record { answered = e; counts = λ r. sym (step-done (state_of r W) (an_offer k n) e z) }
+  offered z = record { answered = e; counts = λ r. sym (step_done (state_of r W) (an_offer k n) e z) }
 
 module _ (r : Running) (T W S : List ℕ) {a : Answer} (e : a ≡ slot_answer r T W (length S)) where
   abbrev f : ℕ → ℕ
@@ -53,7 +53,7 @@ module _ (r : Running) (T W S : List ℕ) {a : Answer} (e : a ≡ slot_answer r 
       → SlotServed r T W S (outcome a r') W' S'
   unfolding sent_after
   slot_served z next w s =
-      let after = step-done (state_of r W) (a_slot T (length S)) e z in
+      let after = step_done (state_of r W) (a_slot T (length S)) e z in
       record {
         handed_back = handed (state_of r W) (a_slot T (length S)) e next after;
         counts = w ∙ sym (ap (λ (x : State). x.waiting) after);

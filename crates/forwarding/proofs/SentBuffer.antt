@@ -9,7 +9,7 @@ use Rattle.answers.specs.Numbers.{DONE}
 use Rattle.answers.specs.Sums.{one}
 use Rattle.answers.specs.Buffers.{written}
 use Rattle.answers.proofs.Sums.{sum_agree}
-use Rattle.answers.proofs.Buffers.{written_at, written-past}
+use Rattle.answers.proofs.Buffers.{written_at, written_past}
 use Rattle.forwarding.specs.Forwarding.{entries_now, output_byte}
 use Rattle.forwarding.specs.Histories.{a_slot, answer_of, done, sent_after}
 use Rattle.forwarding.specs.SentBuffer.{CellsShown, BytesPastStay}
@@ -29,5 +29,5 @@ unfolding sent_after
 bytes_past_stay st T S r l = go (done st (a_slot T (length S)))
   where
     go : (b : Bool) → get_or (cond b (written st.running.ports (output_byte (entries_now st.running T) st.waiting) S) S) r 0 ≡ get_or S r 0
-    go true = written-past (output_byte (entries_now st.running T) st.waiting) S st.running.ports r l
+    go true = written_past (output_byte (entries_now st.running T) st.waiting) S st.running.ports r l
     go false = refl

@@ -17,7 +17,7 @@ use Rattle.forwarding.specs.declared.Running.{Running}
 use Rattle.forwarding.specs.Forwarding.{waiting_of}
 use Rattle.forwarding.specs.Histories.{State, Call, a_fresh_start, an_offer, a_slot, running_at, answer_of, carried_out, step, total, sent_by, slot_by, fresh_start_by}
 use Rattle.forwarding.specs.Shares.{LentOnly, Window, UpperShare, LowerShare}
-use Rattle.forwarding.proofs.Done.{Done, Refused, done_or, slot_done, step-done, step_refused}
+use Rattle.forwarding.proofs.Done.{Done, Refused, done_or, slot_done, step_done, step_refused}
 use Rattle.forwarding.proofs.Rotation.{met, rotation}
 use Rattle.forwarding.proofs.Keeping.{named, nothing, slot_sends, step_known, kept}
 
@@ -58,7 +58,7 @@ module _ (k : ℕ) (T : List ℕ) where
   unfolding total
   after_offer st j n h known e later =
       let c = an_offer j n in
-      let after = step-done st c refl e in
+      let after = step_done st c refl e in
       let rest = subst (λ (s : State). Share s h) after later in
       let slots : slot_by st c + total slot_by (step st c) h ≡ total slot_by (carried_out st c) h = omega (arith, ap (λ (s : State). total slot_by s h) after) in
       let cells = ap (λ (s : State). total (sent_by k) s h) after in
@@ -75,7 +75,7 @@ module _ (k : ℕ) (T : List ℕ) where
   unfolding total met
   after_slot st n h known e later =
       let c = a_slot T n in
-      let after = step-done st c refl e in
+      let after = step_done st c refl e in
       let rest = subst (λ (s : State). Share s h) after later in
       let slots : slot_by st c + total slot_by (step st c) h ≡ suc (total slot_by (carried_out st c) h) =
       omega (arith, ap (λ (s : State). total slot_by s h) after, ap one (eq-eqb (answer_of st c).number DONE e)) in

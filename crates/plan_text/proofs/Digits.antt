@@ -106,8 +106,8 @@ pub record FirstDigit (n : ℕ) (l : List ℕ) : Type 0 where
   pub there : 0 < length l
   pub leading : get_or l 0 0 ≡ zero_byte → n ≡ 0
 
-pub digits-first : (n : ℕ) → n < 10 ^ 20 → FirstDigit n (digits n)
-digits-first n low =
+pub digits_first : (n : ℕ) → n < 10 ^ 20 → FirstDigit n (digits n)
+digits_first n low =
     digits_by FirstDigit (λ n s. record { there = omega arith; leading = λ e. omega arith })
     (λ n l a f.
     record {

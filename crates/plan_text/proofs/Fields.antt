@@ -105,8 +105,8 @@ digit_runs f begun v d n l g e =
     (past_digit_lem (behind_key f begun v) (zero_byte + d) (key_past f) (digit_test d l))
     (subst (λ (x : ℕ). Runs (behind_key f true x) [] (behind_key f true n) []) (omega arith) (runs_nothing (behind_key f true n)))
 
-digits-run : (f : Field) (n : ℕ) → n ≤ max_number → Runs (behind_key f false 0) (digits n) (behind_key f true n) []
-digits-run f n l =
+digits_run : (f : Field) (n : ℕ) → n ≤ max_number → Runs (behind_key f false 0) (digits n) (behind_key f true n) []
+digits_run f n l =
     digits_by (λ n l. n ≤ max_number → Runs (behind_key f false 0) l (behind_key f true n) []) (λ n s b. digit_runs f false 0 n n s refl (omega arith))
     more n (omega arith) l
   where
@@ -134,4 +134,4 @@ end_runs f n =
 pub fields_run : (f : Field) (ns : List ℕ) → AllShort ns → Runs (before_field f) (fields_text f ns) (before_field (field_after f ns)) ns
 fields_run f [] s = runs_nothing (before_field f)
 fields_run f (n ∷ ns) s =
-    runs_then (runs_then (key_runs f) (runs_then (digits-run f n s.0) (end_runs f n))) (fields_run (next_field f) ns s.1)
+    runs_then (runs_then (key_runs f) (runs_then (digits_run f n s.0) (end_runs f n))) (fields_run (next_field f) ns s.1)

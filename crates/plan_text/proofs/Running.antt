@@ -17,12 +17,12 @@ lives_first r b t e = go (takes r b) e
     go true h = refl
     go false h = absurd (omega arith)
 
-pub lived-taken : (r : Reader) (b : ℕ) (t : List ℕ) → takes r b ≡ true → lived r (b ∷ t) ≡ suc (lived (past r b) t)
+pub lived_taken : (r : Reader) (b : ℕ) (t : List ℕ) → takes r b ≡ true → lived r (b ∷ t) ≡ suc (lived (past r b) t)
 unfolding lived
-lived-taken r b t e = ap (λ (k : Bool). cond k (suc (lived (past r b) t)) 0) e
+lived_taken r b t e = ap (λ (k : Bool). cond k (suc (lived (past r b) t)) 0) e
 
 pub lives_on : (r : Reader) (b : ℕ) (t : List ℕ) → lived r (b ∷ t) ≡ length (b ∷ t) → lived (past r b) t ≡ length t
-lives_on r b t e = omega (arith, lived-taken r b t (lives_first r b t e), e)
+lives_on r b t e = omega (arith, lived_taken r b t (lives_first r b t e), e)
 
 -- cutting the text cuts the reading
 pub lived-take : (q : ℕ) (r : Reader) (t : List ℕ) → lived r (take q t) ≡ min q (lived r t)
@@ -60,7 +60,7 @@ pub runs_byte : {r q p : Reader} {b : ℕ} {t ns : List ℕ} → takes r b ≡ t
 unfolding lived past_all numbers_in
 runs_byte {r} {q} {p} {b} {t} {ns} e n h run =
     record {
-      alive = lived-taken r b t e ∙ ap suc (ap (λ (s : Reader). lived s t) h ∙ run.alive);
+      alive = lived_taken r b t e ∙ ap suc (ap (λ (s : Reader). lived s t) h ∙ run.alive);
       stands = ap (λ (s : Reader). past_all s t) h ∙ run.stands;
       ended =
           ap (λ (k : Bool). cond k (r.value ∷ numbers_in (past r b) t) (numbers_in (past r b) t)) n
@@ -73,7 +73,7 @@ pub runs_end : {r q p : Reader} {b : ℕ} {t ns : List ℕ} → takes r b ≡ tr
 unfolding lived past_all numbers_in
 runs_end {r} {q} {p} {b} {t} {ns} e n h run =
     record {
-      alive = lived-taken r b t e ∙ ap suc (ap (λ (s : Reader). lived s t) h ∙ run.alive);
+      alive = lived_taken r b t e ∙ ap suc (ap (λ (s : Reader). lived s t) h ∙ run.alive);
       stands = ap (λ (s : Reader). past_all s t) h ∙ run.stands;
       ended =
           ap (λ (k : Bool). cond k (r.value ∷ numbers_in (past r b) t) (numbers_in (past r b) t)) n

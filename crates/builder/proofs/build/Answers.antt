@@ -3,7 +3,7 @@ use native.Mathlib.Omega.{arith}
 use Rattle.flows.proofs.Shape.{listed}
 use Rattle.tables.proofs.Places.{size_of}
 use Rattle.builder.proofs.Progress.{may_fill_same}
-use Rattle.builder.proofs.Outcome.{refused_by_list, refused_by_loads, may_fill, emptied-start, emptied-marked, built}
+use Rattle.builder.proofs.Outcome.{refused_by_list, refused_by_loads, may_fill, emptied_start, emptied_marked, built}
 use Rattle.builder.proofs.build.Goals as goal
 
 pub returns-then-listed-ne-DONE : goal.returns-then-listed-ne-DONE
@@ -37,8 +37,8 @@ pub fill-requires : goal.fill-requires
 fill-requires c =
     let a = c.args in (
       may_fill_same (may_fill a.frame a.ports a.list.now a.table.now _ c.list_answer-listed.ensures c.if-listed-ne-DONE.false _ c.load_answer-loaded.ensures c.if-loaded-ne-DONE.false) c.clear.auto.table,
-      emptied-start a.frame a.ports a.list.now a.table.now _ c.list_answer-listed.ensures c.if-listed-ne-DONE.false _ c.load_answer-loaded.ensures c.if-loaded-ne-DONE.false _ c.clear.ensures,
-      emptied-marked a.frame a.ports a.list.now a.table.now _ c.list_answer-listed.ensures c.if-listed-ne-DONE.false _ c.load_answer-loaded.ensures c.if-loaded-ne-DONE.false _ c.clear.ensures,
+      emptied_start a.frame a.ports a.list.now a.table.now _ c.list_answer-listed.ensures c.if-listed-ne-DONE.false _ c.load_answer-loaded.ensures c.if-loaded-ne-DONE.false _ c.clear.ensures,
+      emptied_marked a.frame a.ports a.list.now a.table.now _ c.list_answer-listed.ensures c.if-listed-ne-DONE.false _ c.load_answer-loaded.ensures c.if-loaded-ne-DONE.false _ c.clear.ensures,
     )
 
 pub returns : goal.returns

@@ -8,7 +8,7 @@ use Rattle.answers.specs.Buffers.{written}
 use Rattle.answers.proofs.Buffers.{written_again, written_same}
 use Rattle.cycles.specs.Cycle.{network, messages}
 use Rattle.cycles.specs.Run.{response_by, response_of}
-use Rattle.cycles.proofs.CycleOver.{none_over, one-over}
+use Rattle.cycles.proofs.CycleOver.{none_over, one_over}
 use Rattle.cycles.proofs.responses.run_cycles.Goals as goal
 
 pub loop-cycle-init : goal.loop-cycle-init
@@ -28,7 +28,7 @@ loop-cycle-preserved c =
     let a = c.args in
     let w = network a.windows.now a.sizes.now a.paths.now in
     let room : messages w ≤ length marked.new.responses = omega (arith, asked.sized.room, marked.auto.responses) in (
-      one-over w a.releases.now marked.new.responses l.responses went.new.responses a.cycles l.cycle asked.sized.as_many_releases room asked.few (omega arith) l.invariant.0 went.ensures,
+      one_over w a.releases.now marked.new.responses l.responses went.new.responses a.cycles l.cycle asked.sized.as_many_releases room asked.few (omega arith) l.invariant.0 went.ensures,
       (omega arith, went.auto.responses ∙ l.invariant.1.1),
     )
 
