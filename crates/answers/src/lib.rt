@@ -7,7 +7,7 @@ ghost use Rattle.answers.specs.Limits.{max_detail, outside};
 
 // A number of the list and its detail; the detail is 0 where the list names none.
 #[repr(C)]
-#[derive(Drop)]
+#[derive(Clone, Copy)]
 pub struct Answer {
     pub number: u32,
     pub detail: i32,

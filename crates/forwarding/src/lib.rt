@@ -27,7 +27,7 @@ pub struct Running {
 }
 
 // What a call hands back: its answer, and the record after it.
-#[derive(Drop)]
+#[derive(Clone, Copy)]
 pub struct Outcome {
     pub answer: Answer,
     pub running: Running,

@@ -12,7 +12,7 @@ use answers::{Answer, BUFFER_TOO_SMALL, DONE, MAX_TEXT, TEXT_NOT_OF_FORM, TEXT_T
 const MAX_WORD: usize = 65535;
 
 // What reading hands back: its answer, beside frame and ports, both 0 on a refusal.
-#[derive(Drop)]
+#[derive(Clone, Copy)]
 pub struct Plan {
     pub answer: Answer,
     pub frame: usize,
@@ -20,7 +20,7 @@ pub struct Plan {
 }
 
 // How far a text was read: where the reading stands, at which byte, and how many numbers were kept.
-#[derive(Drop)]
+#[derive(Clone, Copy)]
 pub struct HowFar {
     pub reader: Reader,
     pub at: usize,
