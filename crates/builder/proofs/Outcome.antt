@@ -17,7 +17,7 @@ use Rattle.answers.proofs.Lowest.{somewhere_false}
 use Rattle.answers.proofs.First.{NoneHolds, lowest_named, lowest_passed, refusal_passed_on, goes_on, none_of_them}
 use Rattle.flows.specs.Flows.{flow_count, list_rules, list_answer, input_overloaded, output_overloaded, Fitting}
 use Rattle.flows.proofs.Shape.{listed}
-use Rattle.tables.proofs.Places.{size_bound}
+use Rattle.tables.proofs.Places.{size_of, size_bound}
 use Rattle.builder.specs.InputMarks.{Marked}
 use Rattle.builder.specs.Build.{load_rules, load_answer, build_answer, Built}
 use Rattle.builder.specs.Filling.{emptied, SoFar, MayFill, FilledTo}
@@ -119,3 +119,6 @@ module _ (M N : ℕ) (L T : List ℕ) (a : Answer) (e : a ≡ list_answer M N L)
             long_enough = omega (arith, size_bound h, length-replicate {A = ℕ} (max_ports * max_frame) 0);
           })
           (emptied_entries M N T) (λ r s. no_mark (max_ports * max_frame) (r * M + s)))
+
+-- the lemmas by which the build's refusals are told, and that the table can be filled where none is due
+pub ruleset outcomes = (listed, size_of, refused_by_list, refused_by_loads, may_fill)

@@ -34,6 +34,7 @@ fn load_answer(frame: usize, ports: usize, list: &[u16], length: usize) -> Answe
 }
 
 // Builds an accepted table for the list, or refuses and leaves the table as it was: nothing is written before the loads are known to fit.
+#[tactic(auto, using(crate::proofs::Outcome::outcomes))]
 pub fn build(frame: usize, ports: usize, list: &[u16], table: &mut [u8]) -> Answer
     ensures { Built frame ports list.now table.old table.new result }
 {
