@@ -11,7 +11,7 @@ use Rattle.builder.proofs.cell.add_cell.Goals as goal
 pub output_side-requires : goal.output_side-requires
 output_side-requires c =
     let o = c.requires.0.ports.outputs c.args.flow c.requires.0.flow in (
-      record { table = c.requires.0.table; first_in = c.if-first-frame.true; second_in = c.if-second-frame.true },
+      record { table = c.requires.0.table; first_in = omega (arith, c.if-first-frame.true, c.if-second-frame.true); second_in = omega (arith, c.if-first-frame.true, c.if-second-frame.true) },
       record { row_in = omega (arith, c.output_of-row.ensures, o.at_least, o.at_most); not_seen = no_mark max_ports (c.output_of-row.result - 1) },
     )
 

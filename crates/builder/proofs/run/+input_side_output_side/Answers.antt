@@ -10,7 +10,7 @@ input_side-output_side-requires t c =
     let a = c.args in (
       omega (arith, c.decreases),
       (
-        record { table = c.requires.table; first_in = c.requires.first_in; second_in = c.requires.second_in },
+        record { table = c.requires.table; first_in = omega (arith, c.requires); second_in = omega (arith, c.requires) },
         row_next a.frame a.ports a.list.now a.first a.second a.marks a.table.now a.input _ c.row_holding-row.ensures c.if-row-ports.true,
       ),
     )
@@ -22,8 +22,8 @@ output_side-input_side-requires t c =
       omega (arith, c.decreases, unseen_mark a.ports a.marks a.row c.requires.1.row_in (omega (arith, c.requires.0.table.ports_in_range.at_most, c.requires.1.row_in)) c.requires.1.not_seen),
       record {
         table = holds_same _ h c.swap_places.auto.table;
-        first_in = c.requires.0.first_in;
-        second_in = c.requires.0.second_in;
+        first_in = omega (arith, c.requires.0);
+        second_in = omega (arith, c.requires.0);
       },
     )
 
