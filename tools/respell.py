@@ -20,6 +20,8 @@ APART = {
     "same-z": "same_z_lem",
     "same-list": "same_list_lem",
     "past-digit": "past_digit_lem",
+    "free-of-row": "free_of_row_lem",
+    "free-of-input": "free_of_input_lem",
     "ofForm": "is_of_form",
     "on-path": "on_that_path",
     "oneMore": "one_cell_more",
