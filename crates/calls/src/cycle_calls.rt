@@ -5,6 +5,7 @@ use crate::line::write_two;
 use crate::networks::{LINKS_HELD, Lent, MESSAGES_HELD, fill_network, lent_of};
 use crate::sequence::{pick, pick_or};
 use answers::Answer;
+use std::io;
 
 // Fills ready bytes from the first message on: not ready, ready, and one that is more than 1.
 fn fill_ready(state: u64, ready: &mut [u8], messages: usize) -> u64 {
@@ -45,6 +46,7 @@ fn cycle_over(
 
 // Takes a cycle into buffers that are mostly long enough.
 fn cycle_into(
+    rt: &impl Print,
     lent: Lent,
     windows: &[u16],
     sizes: &[u16],
@@ -52,7 +54,7 @@ fn cycle_into(
     ready: &[u8],
     taken: &mut [u8],
     loads: &mut [u16],
-) -> u64 {
+) -> io::Result<u64> {
     let bytes = pick_or(lent.state, 8, 12, MESSAGES_HELD);
     let words = pick_or(bytes.state, 8, 8, LINKS_HELD);
     let t = bytes_within(taken, bytes.value);
@@ -66,12 +68,12 @@ fn cycle_into(
         &mut taken[..t],
         &mut loads[..l],
     );
-    write_two(b"cycle", answer, of_bytes(taken), of_words(loads));
-    words.state
+    write_two(rt, b"cycle", answer, of_bytes(taken), of_words(loads))?;
+    Ok(words.state)
 }
 
 // Takes a cycle of a new network.
-pub fn cycle(state: u64) -> u64 {
+pub fn cycle(rt: &impl Print, state: u64) -> io::Result<u64> {
     let mut windows = [0u16; LINKS_HELD];
     let mut sizes = [0u16; MESSAGES_HELD];
     let mut sets = [0u32; MESSAGES_HELD];
@@ -82,6 +84,6 @@ pub fn cycle(state: u64) -> u64 {
     let filled = fill_ready(network.state, &mut ready, network.messages);
     let lent = lent_of(filled, network);
     cycle_into(
-        lent, &windows, &sizes, &sets, &ready, &mut taken, &mut loads,
+        rt, lent, &windows, &sizes, &sets, &ready, &mut taken, &mut loads,
     )
 }

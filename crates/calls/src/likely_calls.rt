@@ -4,6 +4,7 @@ ghost use Rattle.std.specs.Prelude.{◌<◌};
 use crate::buffers::{store_byte, store_word};
 use crate::line::write_answer;
 use crate::sequence::{one_to, pick};
+use std::io;
 
 // The numbers of two flows.
 const TWO_FLOWS: usize = 6;
@@ -48,7 +49,7 @@ fn fill_row(state: u64, table: &mut [u8], start: usize, end: usize, flow: usize)
 }
 
 // Fills list and table, and checks them.
-pub fn check(state: u64, list: &mut [u16], table: &mut [u8]) -> u64 {
+pub fn check(rt: &impl Print, state: u64, list: &mut [u16], table: &mut [u8]) -> io::Result<u64> {
     let frame = one_to(state, 3);
     let m = frame.value;
     let first = fill_flow(frame.state, list, 0, m);
@@ -56,6 +57,6 @@ pub fn check(state: u64, list: &mut [u16], table: &mut [u8]) -> u64 {
     let upper = fill_row(second, table, 0, m, 1);
     let after = fill_row(upper, table, m, 2 * m, 2);
     let n = crate::buffers::words_within(list, TWO_FLOWS);
-    write_answer(b"accept", tables::check::check(m, 2, &list[..n], table));
-    after
+    write_answer(rt, b"accept", tables::check::check(m, 2, &list[..n], table))?;
+    Ok(after)
 }

@@ -1,7 +1,7 @@
 // A line of output, composed in a buffer and written at once. Each function hands back the place after what it put.
 use crate::buffers::bytes_within;
 use answers::{Answer, magnitude};
-use libc::STDOUT_FILENO;
+use std::io;
 
 // The most digits that a number of 64 bits has.
 const MOST_DIGITS: usize = 20;
@@ -61,40 +61,40 @@ pub fn put_word(line: &mut [u8], at: usize, n: u64) -> usize {
 }
 
 // Ends a line and writes it.
-pub fn write(line: &mut [u8], at: usize) {
+pub fn write(rt: &impl Print, line: &mut [u8], at: usize) -> io::Result<()> {
     let end = put(line, at, b"\n");
     let n = bytes_within(line, end);
-    io::write_all(STDOUT_FILENO, &line[..n]);
+    rt.write_all(&line[..n])
 }
 
 // The line of a call that says no more than its answer.
-pub fn write_answer(name: &[u8], answer: Answer) {
+pub fn write_answer(rt: &impl Print, name: &[u8], answer: Answer) -> io::Result<()> {
     let mut line = [0u8; 128];
     let end = answered(&mut line, name, answer);
-    write(&mut line, end);
+    write(rt, &mut line, end)
 }
 
 // The line of a call that says one number more than its answer.
-pub fn write_one(name: &[u8], answer: Answer, x: u64) {
+pub fn write_one(rt: &impl Print, name: &[u8], answer: Answer, x: u64) -> io::Result<()> {
     let mut line = [0u8; 128];
     let at = answered(&mut line, name, answer);
     let end = put_word(&mut line, at, x);
-    write(&mut line, end);
+    write(rt, &mut line, end)
 }
 
 // The line of a call that says two numbers more than its answer.
-pub fn write_two(name: &[u8], answer: Answer, x: u64, y: u64) {
+pub fn write_two(rt: &impl Print, name: &[u8], answer: Answer, x: u64, y: u64) -> io::Result<()> {
     let mut line = [0u8; 128];
     let first = answered(&mut line, name, answer);
     let second = put_word(&mut line, first, x);
     let end = put_word(&mut line, second, y);
-    write(&mut line, end);
+    write(rt, &mut line, end)
 }
 
 // The line of a change that says no more than one digest.
-pub fn write_digest(name: &[u8], digest: u64) {
+pub fn write_digest(rt: &impl Print, name: &[u8], digest: u64) -> io::Result<()> {
     let mut line = [0u8; 128];
     let at = named(&mut line, name);
     let end = put_word(&mut line, at, digest);
-    write(&mut line, end);
+    write(rt, &mut line, end)
 }

@@ -19,6 +19,7 @@ mod text_calls;
 use crate::buffers::{LIST, SENT, TABLE, TEXT, WAITING};
 use crate::switch_calls::Standing;
 use forwarding::Running;
+use std::io;
 
 // The rounds made.
 const ROUNDS: usize = 12000;
@@ -33,73 +34,82 @@ const SLOT: usize = 11;
 
 // Makes a call of a kind that leaves the running record as it is.
 fn other_call(
+    rt: &impl Print,
     kind: usize,
     state: u64,
     list: &mut [u16; LIST],
     table: &mut [u8; TABLE],
     waiting: &mut [u16; WAITING],
-) -> u64 {
+) -> io::Result<u64> {
     match kind {
-        0 => margin_calls::margin(state),
-        1 => margin_calls::room(state),
-        2 => margin_calls::fit(state),
-        3 => margin_calls::cells(state),
-        4 => table_calls::fill_list(state, list),
-        5 => table_calls::damage_table(state, table),
-        6 => table_calls::plan_table(state, table),
-        7 => table_calls::check(state, list, table),
-        8 => table_calls::row(state, table),
-        _ => switch_calls::offer(state, waiting),
+        0 => margin_calls::margin(rt, state),
+        1 => margin_calls::room(rt, state),
+        2 => margin_calls::fit(rt, state),
+        3 => margin_calls::cells(rt, state),
+        4 => table_calls::fill_list(rt, state, list),
+        5 => table_calls::damage_table(rt, state, table),
+        6 => table_calls::plan_table(rt, state, table),
+        7 => table_calls::check(rt, state, list, table),
+        8 => table_calls::row(rt, state, table),
+        _ => switch_calls::offer(rt, state, waiting),
     }
 }
 
 // Makes the call of a round.
 fn call(
+    rt: &impl Print,
     standing: Standing,
     list: &mut [u16; LIST],
     table: &mut [u8; TABLE],
     waiting: &mut [u16; WAITING],
     sent: &mut [u8; SENT],
-) -> Standing {
+) -> io::Result<Standing> {
     let kind = sequence::pick(standing.state, 12);
     let running = standing.running;
     if kind.value == FRESH_START {
-        return switch_calls::fresh_start(kind.state, running, waiting);
+        return switch_calls::fresh_start(rt, kind.state, running, waiting);
     }
     if kind.value == SLOT {
-        return switch_calls::slot(kind.state, running, table, waiting, sent);
+        return switch_calls::slot(rt, kind.state, running, table, waiting, sent);
     }
-    let state = other_call(kind.value, kind.state, list, table, waiting);
-    Standing { state, running }
+    let state = other_call(rt, kind.value, kind.state, list, table, waiting)?;
+    Ok(Standing { state, running })
 }
 
 // Writes the list as a text, and reads it back in part.
-fn written_and_read(state: u64, list: &mut [u16; LIST], text: &mut [u8; TEXT]) -> u64 {
-    let written = text_calls::write(state, list, text);
-    text_calls::read(written.state, written.value, text, list)
+fn written_and_read(
+    rt: &impl Print,
+    state: u64,
+    list: &mut [u16; LIST],
+    text: &mut [u8; TEXT],
+) -> io::Result<u64> {
+    let written = text_calls::write(rt, state, list, text)?;
+    text_calls::read(rt, written.state, written.value, text, list)
 }
 
 // Checks a table that is likely accepted, and serves a slot of any record.
 fn checked_and_served(
+    rt: &impl Print,
     state: u64,
     list: &mut [u16; LIST],
     table: &mut [u8; TABLE],
     waiting: &mut [u16; WAITING],
     sent: &mut [u8; SENT],
-) -> u64 {
-    let after = likely_calls::check(state, list, table);
-    switch_calls::slot_elsewhere(after, table, waiting, sent)
+) -> io::Result<u64> {
+    let after = likely_calls::check(rt, state, list, table)?;
+    switch_calls::slot_elsewhere(rt, after, table, waiting, sent)
 }
 
 // Takes a cycle, runs cycles of another network, and asks for a TRD.
-fn cycled_and_run(state: u64) -> u64 {
-    let cycled = cycle_calls::cycle(state);
-    let run = run_calls::run(cycled);
-    margin_calls::trd(run)
+fn cycled_and_run(rt: &impl Print, state: u64) -> io::Result<u64> {
+    let cycled = cycle_calls::cycle(rt, state)?;
+    let run = run_calls::run(rt, cycled)?;
+    margin_calls::trd(rt, run)
 }
 
 // Makes the calls that some rounds add to their own.
 fn further_calls(
+    rt: &impl Print,
     round: usize,
     state: u64,
     list: &mut [u16; LIST],
@@ -107,21 +117,21 @@ fn further_calls(
     waiting: &mut [u16; WAITING],
     sent: &mut [u8; SENT],
     text: &mut [u8; TEXT],
-) -> u64 {
+) -> io::Result<u64> {
     if round % 16 == 15 {
-        return written_and_read(state, list, text);
+        return written_and_read(rt, state, list, text);
     }
     if round % 4 == 1 {
-        return checked_and_served(state, list, table, waiting, sent);
+        return checked_and_served(rt, state, list, table, waiting, sent);
     }
     if round % 8 == 2 {
-        return cycled_and_run(state);
+        return cycled_and_run(rt, state);
     }
-    state
+    Ok(state)
 }
 
 // Makes all rounds, over buffers that keep what the calls leave in them.
-fn main() {
+fn main(rt: HostRuntime) -> io::Result<()> {
     let mut list = [0u16; LIST];
     let mut table = [0u8; TABLE];
     let mut waiting = [0u16; WAITING];
@@ -137,8 +147,16 @@ fn main() {
     };
     let mut round = 0;
     while round < ROUNDS {
-        standing = call(standing, &mut list, &mut table, &mut waiting, &mut sent);
+        standing = call(
+            &rt,
+            standing,
+            &mut list,
+            &mut table,
+            &mut waiting,
+            &mut sent,
+        )?;
         standing.state = further_calls(
+            &rt,
             round,
             standing.state,
             &mut list,
@@ -146,7 +164,8 @@ fn main() {
             &mut waiting,
             &mut sent,
             &mut text,
-        );
+        )?;
         round += 1;
     }
+    Ok(())
 }

@@ -6,6 +6,7 @@ use crate::line::write_one;
 use crate::networks::{LINKS_HELD, Lent, MESSAGES_HELD, fill_network, lent_of};
 use crate::sequence::{CYCLES, edge_or_one_to, pick_or};
 use answers::Answer;
+use std::io;
 
 // Runs cycles of the first numbers of the lists.
 fn run_over(
@@ -33,13 +34,14 @@ fn run_over(
 
 // Runs cycles into a buffer that is mostly long enough.
 fn run_into(
+    rt: &impl Print,
     lent: Lent,
     windows: &[u16],
     sizes: &[u16],
     sets: &[u32],
     releases: &[u16],
     responses: &mut [u16],
-) -> u64 {
+) -> io::Result<u64> {
     let cycles = edge_or_one_to(lent.state, 4, &CYCLES, 10);
     let words = pick_or(cycles.state, 8, 12, MESSAGES_HELD);
     let n = words_within(responses, words.value);
@@ -52,12 +54,12 @@ fn run_into(
         cycles.value,
         &mut responses[..n],
     );
-    write_one(b"run", answer, of_words(responses));
-    words.state
+    write_one(rt, b"run", answer, of_words(responses))?;
+    Ok(words.state)
 }
 
 // Runs cycles of a new network.
-pub fn run(state: u64) -> u64 {
+pub fn run(rt: &impl Print, state: u64) -> io::Result<u64> {
     let mut windows = [0u16; LINKS_HELD];
     let mut sizes = [0u16; MESSAGES_HELD];
     let mut sets = [0u32; MESSAGES_HELD];
@@ -67,5 +69,5 @@ pub fn run(state: u64) -> u64 {
     let filled = fill_words(network.state, &mut releases, network.messages, 0, 4);
     let damaged = damage_anyhow(filled, &mut releases, 3, 10);
     let lent = lent_of(damaged, network);
-    run_into(lent, &windows, &sizes, &sets, &releases, &mut responses)
+    run_into(rt, lent, &windows, &sizes, &sets, &releases, &mut responses)
 }

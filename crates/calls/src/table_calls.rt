@@ -6,6 +6,7 @@ use crate::digest::{of_bytes, of_words};
 use crate::filling::damage_anyhow;
 use crate::line::{write_digest, write_two};
 use crate::sequence::{frame, numbers_lent, one_to, pick, ports, some_or_all};
+use std::io;
 
 // Eight flows of three numbers.
 pub const LIST_SHOWN: usize = 24;
@@ -43,23 +44,23 @@ fn fill_flows(state: u64, list: &mut [u16], flows: usize, ports: usize, frame: u
 }
 
 // Fills the list with flows that are mostly in range.
-pub fn fill_list(state: u64, list: &mut [u16]) -> u64 {
+pub fn fill_list(rt: &impl Print, state: u64, list: &mut [u16]) -> io::Result<u64> {
     let flows = pick(state, 9);
     let frame = one_to(flows.state, 8);
     let ports = one_to(frame.state, 4);
     let filled = fill_flows(ports.state, list, flows.value, ports.value, frame.value);
     let after = damage_anyhow(filled, list, 8, LIST_SHOWN);
-    write_digest(b"list", list_digest(list));
-    after
+    write_digest(rt, b"list", list_digest(list))?;
+    Ok(after)
 }
 
 // Puts any byte anywhere into the table.
-pub fn damage_table(state: u64, table: &mut [u8]) -> u64 {
+pub fn damage_table(rt: &impl Print, state: u64, table: &mut [u8]) -> io::Result<u64> {
     let place = pick(state, TABLE);
     let byte = pick(place.state, 256);
     store_byte(table, place.value, byte.value);
-    write_digest(b"damage", of_bytes(table));
-    byte.state
+    write_digest(rt, b"damage", of_bytes(table))?;
+    Ok(byte.state)
 }
 
 // Plans one entry: empty one time in three, else a flow.
@@ -93,17 +94,17 @@ fn entries(frame: usize, ports: usize) -> usize
 }
 
 // Plans the front of the table anew.
-pub fn plan_table(state: u64, table: &mut [u8]) -> u64 {
+pub fn plan_table(rt: &impl Print, state: u64, table: &mut [u8]) -> io::Result<u64> {
     let frame = one_to(state, 8);
     let ports = one_to(frame.state, 4);
     let after = plan_entries(ports.state, table, entries(frame.value, ports.value));
     let shown = bytes_within(table, 40);
-    write_digest(b"plan", of_bytes(&table[..shown]));
-    after
+    write_digest(rt, b"plan", of_bytes(&table[..shown]))?;
+    Ok(after)
 }
 
 // Checks the table for the list.
-pub fn check(state: u64, list: &[u16], table: &[u8]) -> u64 {
+pub fn check(rt: &impl Print, state: u64, list: &[u16], table: &[u8]) -> io::Result<u64> {
     let frame = frame(state);
     let ports = ports(frame.state);
     let numbers = numbers_lent(ports.state);
@@ -111,12 +112,12 @@ pub fn check(state: u64, list: &[u16], table: &[u8]) -> u64 {
     let n = words_within(list, numbers.value);
     let t = bytes_within(table, bytes.value);
     let answer = tables::check::check(frame.value, ports.value, &list[..n], &table[..t]);
-    write_two(b"check", answer, list_digest(list), of_bytes(table));
-    bytes.state
+    write_two(rt, b"check", answer, list_digest(list), of_bytes(table))?;
+    Ok(bytes.state)
 }
 
 // Asks for an output's row.
-pub fn row(state: u64, table: &[u8]) -> u64 {
+pub fn row(rt: &impl Print, state: u64, table: &[u8]) -> io::Result<u64> {
     let frame = frame(state);
     let ports = ports(frame.state);
     let bytes = some_or_all(ports.state, 4, TABLE);
@@ -125,6 +126,6 @@ pub fn row(state: u64, table: &[u8]) -> u64 {
     let lent = &table[..t];
     let answer = tables::row::row_answer(frame.value, ports.value, lent, output.value);
     let part = tables::row::row(frame.value, ports.value, lent, output.value);
-    write_two(b"row", answer, part.len() as u64, of_bytes(part));
-    output.state
+    write_two(rt, b"row", answer, part.len() as u64, of_bytes(part))?;
+    Ok(output.state)
 }
