@@ -1,5 +1,5 @@
 // Parts of buffers and stores into them, for any length and any place: what lies past a buffer's end is left out.
-ghost use Rattle.io.specs.Counts.{IsPrefixLen};
+ghost use Rattle.std.specs.Prelude.{◌≡◌, ◌≤◌, length, take};
 
 // The lengths of the buffers that live through the whole run.
 pub const LIST: usize = 800;
@@ -14,7 +14,8 @@ pub const TEXT: usize = 9000;
 
 // How many of the first n bytes there are, so that they can be lent.
 pub fn bytes_within(bytes: &[u8], n: usize) -> usize
-    ensures { IsPrefixLen result bytes.now }
+    ensures within { result ≤ length bytes.now }
+    ensures part { result ≡ length (take result bytes.now) }
 {
     if bytes.len() < n {
         return bytes.len();
@@ -24,7 +25,8 @@ pub fn bytes_within(bytes: &[u8], n: usize) -> usize
 
 // How many of the first n words there are, so that they can be lent.
 pub fn words_within(words: &[u16], n: usize) -> usize
-    ensures { IsPrefixLen result words.now }
+    ensures within { result ≤ length words.now }
+    ensures part { result ≡ length (take result words.now) }
 {
     if words.len() < n {
         return words.len();
@@ -34,7 +36,8 @@ pub fn words_within(words: &[u16], n: usize) -> usize
 
 // How many of the first n sets there are, so that they can be lent.
 pub fn sets_within(sets: &[u32], n: usize) -> usize
-    ensures { IsPrefixLen result sets.now }
+    ensures within { result ≤ length sets.now }
+    ensures part { result ≡ length (take result sets.now) }
 {
     if sets.len() < n {
         return sets.len();
