@@ -1,0 +1,9 @@
+-- `plan::read_full` is safe and ends: the bytes that are still missing get fewer.
+use Rattle.std.proofs.Common.{◌-◌, ◌≤◌, length}
+use Rattle.plan.proofs.read_full.Given as goal
+
+abbrev pub invariant-loop-done : goal.invariant-loop-done
+invariant-loop-done g l = l.done ≤ length l.bytes
+
+abbrev pub decreases-loop-done : goal.decreases-loop-done
+decreases-loop-done g l = length l.bytes - l.done
