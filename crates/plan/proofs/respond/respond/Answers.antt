@@ -1,9 +1,7 @@
 -- `plan::respond::respond` meets its contract: what was read is what is built.
-use Rattle.std.proofs.Common.{ℕ, ◌*◌, ◌≡◌, ◌≤◌, length, arith, sym}
+use Rattle.std.proofs.Common.{ℕ, ◌*◌, arith, sym}
 use lib.Seq.{length-take-le}
 use lib.ListN.{replicate, length-replicate}
-use Rattle.flows.specs.Flows.{per_flow, flow_count}
-use Rattle.plan_text.specs.Reading.{list_in}
 use Rattle.plan.specs.Responding.{list_room}
 use Rattle.plan.proofs.TextRead.{refuses, counted, room_for, list_is, builds}
 use Rattle.plan.proofs.respond.respond.Goals as goal
