@@ -12,7 +12,7 @@ use std::io;
 const TEXT_SHOWN: usize = 200;
 
 // How much of the text is read after it was written: what was written, or any part.
-fn bytes_to_read(state: u64, answer: &Answer) -> Picked {
+fn bytes_to_read(state: u64, answer: Answer) -> Picked {
     if answer.number == answers::DONE {
         return Picked {
             state,
@@ -32,9 +32,8 @@ pub fn write(rt: &impl Print, state: u64, list: &[u16], text: &mut [u8]) -> io::
     let z = bytes_within(text, room.value);
     let answer = plan_text::writing::write(frame.value, ports.value, &list[..n], &mut text[..z]);
     let shown = bytes_within(text, TEXT_SHOWN);
-    let next = bytes_to_read(room.state, &answer);
     write_one(rt, b"write", answer, of_bytes(&text[..shown]))?;
-    Ok(next)
+    Ok(bytes_to_read(room.state, answer))
 }
 
 // One time in four puts any byte anywhere into the text's front.
