@@ -3,8 +3,9 @@
 
 mod respond;
 
-ghost use Rattle.std.specs.Prelude.{◌≤◌};
+ghost use Rattle.std.specs.Prelude.{◌<◌, ◌≤◌, length, take, IfOk};
 ghost use Rattle.std.specs.Io.{ReadsAtMost};
+ghost use Rattle.std.specs.Io.KnownBytes.{Consumes, IsAtEnd};
 ghost use Rattle.answers.specs.Limits.{max_frame, max_ports};
 
 use answers::{DONE, MAX_FRAME, MAX_PORTS, MAX_TEXT};
@@ -18,14 +19,16 @@ const ANSWER_ROOM: usize = 32;
 const ROW_ROOM: usize = 4 * MAX_FRAME + 5;
 
 // Reads until the buffer is full or the input ends, and hands back how many bytes it put at the buffer's start.
-fn read_full(input: &mut impl Read, bytes: &mut [u8]) -> io::Result<usize>
-    ensures { ReadsAtMost result bytes.new }
+fn read_full<R: Read>(input: &mut R, bytes: &mut [u8]) -> io::Result<usize>
+    ensures within { ReadsAtMost result bytes.new }
+    ensures read { IfOk result (λ n. Consumes (R.remaining input.old) (R.remaining input.new) (take n bytes.new)) }
+    ensures whole { IfOk result (λ n. n < length bytes.new → IsAtEnd (R.remaining input.new)) }
 {
     let mut done = 0;
     while done < bytes.len() {
         let n = input.read(&mut bytes[done..])?;
         if n == 0 {
-            break;
+            return Ok(done);
         }
         done += n;
     }
