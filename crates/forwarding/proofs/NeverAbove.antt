@@ -49,8 +49,8 @@ names_entry r T W n p = (λ e. let h = law.0 e in (slot_asked r T W n h.0, h.1),
   where
     law : (slot_answer r T W n ≡ answer ENTRY_ABOVE_COUNTS (pos p)) ↔ (NoneHolds (slot_size_rules r T W n) × ((j : ℕ) × IsLowest 0 r.ports (WithoutCount r T W) j × (place_now r j ≡ p)))
     law =
-        told_exactly ENTRY_ABOVE_COUNTS 0 r.ports (above_counts r T (length W)) (WithoutCount r T W) (λ j a u e. ltb-true (length W) (entries_now r T j) e)
-        (λ j a u l. lt-ltb (length W) (entries_now r T j) l) (place_now r) (slot_size_rules r T W n) [] (done_with (pos 0)) p tt tt tt
+        told_exactly ENTRY_ABOVE_COUNTS 0 r.ports (above_counts r T (length W)) (WithoutCount r T W) (λ j a u e. omega (arith, ltb-true (length W) (entries_now r T j) e))
+        (λ j a u l. lt-ltb (length W) (entries_now r T j) (omega arith)) (place_now r) (slot_size_rules r T W n) [] (done_with (pos 0)) p tt tt tt
 
 -- an entry of an accepted table is at most the number of flows
 entry_counted : {M N : ℕ} {L T : List ℕ} → Accepted M N L T → (j s : ℕ) → j < N → s < M → entry M T j s ≤ flow_count L
