@@ -7,7 +7,7 @@ use mathlib.Core.List.{List, [], ◌∷◌}
 use native.Mathlib.Omega.{arith}
 use native.Mathlib.Nat.{div-add-mod', mod-lt, le-div_iff_mul-le, mul_comm, mul-add, add-mul, suc-mul}
 use borrow.Author.Tests.{ltb-true, ltb-false, eqb-false}
-use lib.Dec.{T, leb, ltb, eqb, le→leb, leb→le, lt→ltb}
+use lib.Dec.{T, ltb, eqb, le→leb, leb→le, lt→ltb}
 use lib.ListN.{length, replicate}
 use lib.IntN.{ℤ, pos, negsuc, suc_ℤ, neg_ℤ, ◌-ℤ◌, ◌*ℤ◌}
 use lib.Signed.{◌≤ℤ◌, ◌<ℤ◌, mag}

@@ -1,6 +1,5 @@
 -- Tables: any table is judged by the one definition of accepted.
 use Rattle.std.specs.Prelude.{ℕ, ◌*◌, ◌≤◌, ◌<◌, ◌≡◌, ◌↔◌, List, [], length, pos}
-use Rattle.answers.specs.declared.Answer.{Answer}
 use Rattle.answers.specs.Numbers.{DONE, ENTRY_NOT_OF_ROW, INPUT_TWICE_IN_SLOT, COUNT_WRONG}
 use Rattle.answers.specs.Lowest.{IsLowest}
 use Rattle.answers.specs.Answers.{answer, done_with}
