@@ -1,4 +1,5 @@
 pub mod Lowest
+pub mod Listed
 pub mod Sums
 pub mod Ranges
 pub mod First

@@ -2,5 +2,6 @@ pub mod Numbers
 pub mod Limits
 pub mod Answers
 pub mod Lowest
+pub mod Listed
 pub mod Sums
 pub mod Buffers
