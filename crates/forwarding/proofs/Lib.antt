@@ -7,6 +7,7 @@ pub mod Cells
 pub mod Rotation
 pub mod Keeping
 pub mod Count
+pub mod WaitingLimit
 pub mod Shares
 pub mod Isolation
 pub mod NeverAbove

@@ -5,4 +5,5 @@ pub mod Promises
 pub mod Shares
 pub mod Isolation
 pub mod Count
+pub mod WaitingLimit
 pub mod AboveCounts
