@@ -6,3 +6,16 @@ pub mod Switch
 pub mod Cycles
 pub mod Cases
 pub mod OneOutcome
+pub mod Contracts
+pub mod FixedList
+pub mod Carrying
+pub mod BytesPast
+pub mod Lists
+pub mod ListCases
+pub mod TableCalls
+pub mod BuilderCalls
+pub mod PlanTextCalls
+pub mod SwitchCalls
+pub mod DelayCalls
+pub mod CycleCalls
+pub mod OutcomeCalls
