@@ -28,7 +28,7 @@ INPUT_OVERLOADED = 5
 abbrev pub OUTPUT_OVERLOADED : ℕ
 OUTPUT_OVERLOADED = 6
 
--- the table is shorter than N-as-M
+-- the table is shorter than N·M
 abbrev pub TABLE_TOO_SHORT : ℕ
 TABLE_TOO_SHORT = 7
 

@@ -1,4 +1,4 @@
--- The check looks at no byte past N-as-M: tables that are long enough and agree up to there are answered alike.
+-- The check looks at no byte past N·M: tables that are long enough and agree up to there are answered alike.
 use Prim.Native.Nat.{ℕ, suc, ◌+◌, ◌*◌, ◌/◌, ◌≤◌, ◌<◌}
 use mathlib.Core.Path.{◌≡◌, sym, ◌∙◌, ap}
 use mathlib.Core.Bool.{not, ◌&&◌}

@@ -48,7 +48,7 @@ NamesOutput =
     → (build_answer M N L tableLength ≡ answer OUTPUT_OVERLOADED (pos j))
     ↔ (InRange M N L × ((i : ℕ) → Within 1 N i → InputOver M L i → ⊥) × IsLowest 1 N (OutputOver M L) j)
 
--- no call has two outcomes but for which accepted table is picked: the answers are the same, so is every byte on a refusal, and the bytes past N-as-M always
+-- no call has two outcomes but for which accepted table is picked: the answers are the same, so is every byte on a refusal, and the bytes past N·M always
 abbrev pub OneBuild : Type 0
 OneBuild =
     (M N : ℕ) (L before : List ℕ) (a b : Answer) (T U : List ℕ) → Built M N L before T a → Built M N L before U b

@@ -26,7 +26,7 @@ pub data Case : Type 0 where
   run : Network → List ℕ → ℕ → List ℕ → Answer → List ℕ → Case
   trd : ℕ → ℕ → ℕ → ℕ → ℕ → Answer → Case
 
--- what a case claims: the call is answered so (a build is lent the N-as-M bytes of its table, a slot a sent buffer of N)
+-- what a case claims: the call is answered so (a build is lent the N·M bytes of its table, a slot a sent buffer of N)
 abbrev pub Claim : Case → Type 0
 Claim (check M N L T a) = check_answer M N L T ≡ a
 Claim (build M N L a) = build_answer M N L (N * M) ≡ a

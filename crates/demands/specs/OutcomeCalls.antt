@@ -10,7 +10,7 @@ use Rattle.forwarding.proofs.slot.Reads as slot
 use Rattle.forwarding.proofs.record.fresh_start_in.Reads as fresh_start_in
 use Rattle.forwarding.proofs.record.slot_in.Reads as slot_in
 
--- of a build, the answer, every byte on a refusal, and the bytes past N-as-M always
+-- of a build, the answer, every byte on a refusal, and the bytes past N·M always
 abbrev pub OneBuildOfContract : Type 0
 OneBuildOfContract =
     (κ : _) (x : _) (a b : _) (l m : _)

@@ -8,7 +8,7 @@ use Rattle.tables.specs.Accepted.{Accepted, NotOfRow, InputTwice, CountWrong}
 use Rattle.tables.specs.Check.{check_answer}
 use Rattle.tables.specs.Row.{row_answer, row_part}
 
--- frame, ports and list are in range, and the table has its N-as-M bytes: what the check asks before it looks at an entry
+-- frame, ports and list are in range, and the table has its N·M bytes: what the check asks before it looks at an entry
 pub record Judged (M N : ℕ) (L T : List ℕ) : Type 0 where
   pub in_range : InRange M N L
   pub long_enough : N * M ≤ length T

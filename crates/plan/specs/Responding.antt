@@ -21,7 +21,7 @@ respond_answer text tableLength =
     cond (is_done (read_answer text list_room)) (build_answer (frame_in text) (ports_in text) (list_in text) tableLength) (read_answer text list_room)
 
 -- what is handed back beside the table: done, the frame and the ports are the text's, and the table is accepted for its list;
--- refused, the table is as it was, and so are its bytes past N-as-M always
+-- refused, the table is as it was, and so are its bytes past N·M always
 pub record Responded (text before after : List ℕ) (r : Reply) : Type 0 where
   pub answered : r.answer ≡ respond_answer text (length before)
   pub in_range : r.answer.number ≡ DONE → InRange r.frame r.ports (list_in text)
