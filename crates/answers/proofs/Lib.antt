@@ -4,5 +4,5 @@ pub mod Sums
 pub mod Ranges
 pub mod First
 pub mod Orders
-pub mod Sign
 pub mod Buffers
+pub mod Outcomes

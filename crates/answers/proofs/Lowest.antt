@@ -4,8 +4,9 @@ use mathlib.Core.Path.{◌≡◌, refl, sym, ◌∙◌, ap}
 use mathlib.Core.Bool.{Bool, true, false, cond, true≢false}
 use native.Mathlib.Omega.{arith}
 use native.Mathlib.Decide.{ℕ_discrete}
-use borrow.Author.Tests.{ltb-false, le-ltb}
-use Rattle.answers.specs.Lowest.{lowest, holds_somewhere}
+use borrow.Author.Tests.{ltb-false, ltb-true, le-ltb}
+use Rattle.std.proofs.Common.{Some, None}
+use Rattle.answers.specs.Lowest.{lowest, holds_somewhere, found}
 
 -- the test holds at none of from, from + 1, .. below to
 abbrev pub Nowhere : ℕ → ℕ → (ℕ → Bool) → Type 0
@@ -90,29 +91,37 @@ lowest_agree from (suc count) f g h =
     ap (λ (b : Bool). cond b from (lowest (suc from) count f)) (h from (omega arith) (omega arith))
     ∙ ap (λ (n : ℕ). cond (g from) from n) (lowest_agree (suc from) count f g (λ k l u. h k (omega arith) (omega arith)))
 
--- a search that has passed from, from + 1, .. below k without finding the test to hold
-pub record Searched (from count : ℕ) (test : ℕ → Bool) (k : ℕ) : Type 0 where
+-- what a search hands back: the lowest number, where it lies in the range, and else none
+pub some_found : (from count : ℕ) (test : ℕ → Bool) (k : ℕ) → from ≤ k → k < from + count → test k ≡ true → Nowhere from k test → Some k ≡ found from count test
+some_found from count test k l u t h =
+    let e = lowest_is from count test k l u t h in
+    ap Some (sym e)
+    ∙ sym (ap (λ (b : Bool). cond b (Some (lowest from count test)) None) (somewhere_test from count test k l u t))
+
+pub none_found : (from count : ℕ) (test : ℕ → Bool) → Nowhere from (from + count) test → None ≡ found from count test
+none_found from count test h = sym (ap (λ (b : Bool). cond b (Some (lowest from count test)) None) (nowhere_test from count test h))
+
+-- and what it says of the numbers passed: the one found lies in the range, and is the lowest
+pub record FoundAt (from count : ℕ) (test : ℕ → Bool) (k : ℕ) : Type 0 where
   pub low : from ≤ k
-  pub high : k ≤ from + count
-  pub none_lower : Nowhere from k test
+  pub high : k < from + count
+  pub is : k ≡ lowest from count test
+  pub there : test k ≡ true
 
-pub search_start : (from count : ℕ) (test : ℕ → Bool) → Searched from count test from
-search_start from count test = record { low = omega arith; high = omega arith; none_lower = λ k l u. absurd (omega arith) }
+pub found_some : (from count : ℕ) (test : ℕ → Bool) (k : ℕ) → Some k ≡ found from count test → FoundAt from count test k
+found_some from count test k e = go (holds_somewhere from count test) refl e
+  where
+    go : (b : Bool) → holds_somewhere from count test ≡ b → Some k ≡ cond b (Some (lowest from count test)) None → FoundAt from count test k
+    go true h p =
+        let f = lowest_found from count test in
+        let same : k ≡ lowest from count test = cc in
+        let u : lowest from count test < from + count = ltb-true _ _ h in
+        record { low = omega (arith, f.low); high = omega arith; is = same; there = ap test same ∙ f.there u }
+    go false h p = cc
 
-pub search_more : {from count : ℕ} {test : ℕ → Bool} {k : ℕ} → Searched from count test k → k < from + count → test k ≡ false → Searched from count test (k + 1)
-search_more {from} {count} {test} {k} s u e =
-    record { low = omega arith; high = omega arith; none_lower = λ j l w. nowhere_more from k test s.none_lower e j l (omega arith) }
-
-pub search_hit : {from count : ℕ} {test : ℕ → Bool} {k : ℕ} → Searched from count test k → k < from + count → test k ≡ true → k ≡ lowest from count test
-search_hit {from} {count} {test} {k} s u e = sym (lowest_is from count test k s.low u e s.none_lower)
-
-pub search_end : {from count : ℕ} {test : ℕ → Bool} {k : ℕ} → Searched from count test k → from + count ≤ k → k ≡ lowest from count test
-search_end {from} {count} {test} {k} s u =
-    omega (arith, lowest_none from count test (λ j l w. s.none_lower j l (omega arith)))
-
--- the same searches, where the function only says whether it found one
-pub search_found : {from count : ℕ} {test : ℕ → Bool} {k : ℕ} → Searched from count test k → k < from + count → test k ≡ true → true ≡ holds_somewhere from count test
-search_found {from} {count} {test} {k} s u e = sym (somewhere_test from count test k s.low u e)
-
-pub search_failed : {from count : ℕ} {test : ℕ → Bool} {k : ℕ} → Searched from count test k → from + count ≤ k → false ≡ holds_somewhere from count test
-search_failed {from} {count} {test} {k} s u = sym (nowhere_test from count test (λ j l w. s.none_lower j l (omega arith)))
+pub found_none : (from count : ℕ) (test : ℕ → Bool) → None ≡ found from count test → holds_somewhere from count test ≡ false
+found_none from count test e = go (holds_somewhere from count test) refl e
+  where
+    go : (b : Bool) → holds_somewhere from count test ≡ b → None ≡ cond b (Some (lowest from count test)) None → b ≡ false
+    go true h p = cc
+    go false h p = refl

@@ -6,6 +6,9 @@ use native.Mathlib.Omega.{arith}
 use native.Mathlib.Decide.{ℕ_discrete, dec_lt}
 use native.Mathlib.Nat.{le_antisymm, zero-mul, mul-one, suc-mul, add-zero, add-suc}
 use native.Mathlib.Numerals.{add-one}
+use Rattle.std.proofs.Common.{List, ◌∷◌, length, get_or}
+use Rattle.std.specs.List.{sum as list_total}
+use Rattle.std.proofs.lemmas.List.Recursion.{is_sum_by}
 use Rattle.answers.specs.Sums.{sum, one}
 
 pub sum_none : (f : ℕ → ℕ) → sum 0 f ≡ 0
@@ -156,3 +159,12 @@ count_once (suc n) t h = go (t n) refl (count_once n t (λ a b u w. h a b (omega
     go : (b : Bool) → t n ≡ b → sum n (λ k. one (t k)) ≤ 1 → sum n (λ k. one (t k)) + one b ≤ 1
     go true e later = omega (arith, sum_zero n (λ k. one (t k)) (λ k l. none e k (t k) refl l))
     go false e later = omega arith
+
+-- a list's own sum is the sum by its places
+first_apart : (n : ℕ) (f : ℕ → ℕ) → sum (suc n) f ≡ f 0 + sum n (λ k. f (suc k))
+unfolding sum
+first_apart zero f = omega arith
+first_apart (suc n) f = omega (arith, first_apart n f)
+
+pub list_sum : (xs : List ℕ) → list_total xs ≡ sum (length xs) (λ k. get_or xs k 0)
+list_sum xs = sym (is_sum_by (λ ys. sum (length ys) (λ k. get_or ys k 0)) (λ x. x) (sum_none _) (λ x ys. first_apart (length ys) (λ k. get_or (x ∷ ys) k 0)) xs)

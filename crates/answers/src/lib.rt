@@ -1,77 +1,192 @@
 // The fixed list: what every call answers with, and the limits, each under one name.
 #![tactic(auto)]
 
-ghost use Rattle.std.specs.Prelude.{◌≡◌, ◌<◌, pos, nat_abs};
-ghost use Rattle.answers.specs.Answers.{refusal, answer};
-ghost use Rattle.answers.specs.Limits.{max_detail, outside};
+ghost use Rattle.std.specs.Prelude.{◌≡◌, ◌<◌, ◌≤◌, ◌-◌, ℕ, Bool, ℤ, pos};
+ghost use Rattle.answers.specs.Answers.{refused, answer_of};
+ghost use Rattle.answers.specs.Limits.{outside};
+ghost use Rattle.answers.specs.Lowest.{found};
 
-// A number of the list and its detail; the detail is 0 where the list names none.
+use std::error::Error;
+use std::fmt;
+use std::ops::Range;
+
+// Why a call refuses. Where the list names a detail, the variant has it: the lowest such flow, port, place, slot, link or message, or the length of a text.
+#[derive(Clone, Copy, Debug, PartialEq, Eq)]
+pub enum Refusal {
+    FrameOutOfRange,
+    PortsOutOfRange,
+    ListMisshapen,
+    FlowOutOfRange(u16),
+    InputOverloaded(u16),
+    OutputOverloaded(u16),
+    TableTooShort,
+    EntryNotOfRow(u16),
+    InputTwiceInSlot(u16),
+    CountWrong(u16),
+    PositionPastFrame,
+    CountsOrSentMissized,
+    FlowUnknown,
+    WaitingFull,
+    LinksOutOfRange,
+    DeadlineOutOfRange,
+    PeriodOutOfRange,
+    PeriodDoesNotFit,
+    TextTooLong,
+    TextNotOfForm(u16),
+    BufferTooSmall,
+    OutputOutOfRange,
+    BitsOutOfRange,
+    DelayOutOfRange(u16),
+    EntryAboveCounts(u16),
+    MessageMisshapen(u16),
+    MessageAboveWindow(u16),
+    TrdAskedOutOfRange,
+    CyclesMissized,
+}
+
+impl Refusal {
+    // The refusal's number in the list.
+    pub fn number(self) -> u32
+        ensures { result ≡ (refused self).number }
+    {
+        match self {
+            Refusal::FrameOutOfRange => 1,
+            Refusal::PortsOutOfRange => 2,
+            Refusal::ListMisshapen => 3,
+            Refusal::FlowOutOfRange(_) => 4,
+            Refusal::InputOverloaded(_) => 5,
+            Refusal::OutputOverloaded(_) => 6,
+            Refusal::TableTooShort => 7,
+            Refusal::EntryNotOfRow(_) => 8,
+            Refusal::InputTwiceInSlot(_) => 9,
+            Refusal::CountWrong(_) => 10,
+            Refusal::PositionPastFrame => 11,
+            Refusal::CountsOrSentMissized => 12,
+            Refusal::FlowUnknown => 13,
+            Refusal::WaitingFull => 14,
+            Refusal::LinksOutOfRange => 15,
+            Refusal::DeadlineOutOfRange => 16,
+            Refusal::PeriodOutOfRange => 17,
+            Refusal::PeriodDoesNotFit => 18,
+            Refusal::TextTooLong => 19,
+            Refusal::TextNotOfForm(_) => 20,
+            Refusal::BufferTooSmall => 21,
+            Refusal::OutputOutOfRange => 22,
+            Refusal::BitsOutOfRange => 23,
+            Refusal::DelayOutOfRange(_) => 25,
+            Refusal::EntryAboveCounts(_) => 28,
+            Refusal::MessageMisshapen(_) => 30,
+            Refusal::MessageAboveWindow(_) => 31,
+            Refusal::TrdAskedOutOfRange => 32,
+            Refusal::CyclesMissized => 34,
+        }
+    }
+
+    // The refusal's detail, 0 where the list names none.
+    pub fn detail(self) -> u16
+        ensures { pos result ≡ (refused self).detail }
+    {
+        match self {
+            Refusal::FlowOutOfRange(told) => told,
+            Refusal::InputOverloaded(told) => told,
+            Refusal::OutputOverloaded(told) => told,
+            Refusal::EntryNotOfRow(told) => told,
+            Refusal::InputTwiceInSlot(told) => told,
+            Refusal::CountWrong(told) => told,
+            Refusal::TextNotOfForm(told) => told,
+            Refusal::DelayOutOfRange(told) => told,
+            Refusal::EntryAboveCounts(told) => told,
+            Refusal::MessageMisshapen(told) => told,
+            Refusal::MessageAboveWindow(told) => told,
+            _ => 0,
+        }
+    }
+}
+
+impl fmt::Display for Refusal {
+    fn fmt<W: fmt::Write>(&self, f: &mut fmt::Formatter<W>) -> fmt::Result {
+        Answer::from(*self).fmt(f)
+    }
+}
+
+impl Error for Refusal {}
+
+// A number of the list and its detail, as a call's answer is stored and printed; the detail is 0 where the list names none.
 #[repr(C)]
-#[derive(Clone, Copy)]
+#[derive(Clone, Copy, Debug, PartialEq, Eq)]
 pub struct Answer {
     pub number: u32,
     pub detail: i32,
 }
 
+// The number of a call that is done: the one number of the list that no refusal has.
 pub const DONE: u32 = 0;
 
-pub const FRAME_OUT_OF_RANGE: u32 = 1;
+impl From<Refusal> for Answer {
+    ghost from_gives = { λ refusal a. a ≡ refused refusal };
 
-pub const PORTS_OUT_OF_RANGE: u32 = 2;
+    fn from(refusal: Refusal) -> Self {
+        Answer {
+            number: refusal.number(),
+            detail: i32::from(refusal.detail()),
+        }
+    }
+}
 
-pub const LIST_MISSHAPEN: u32 = 3;
+// What a call gives where it is done, as a detail.
+pub trait Given {
+    ghost detail: { Self → ℤ };
 
-pub const FLOW_OUT_OF_RANGE: u32 = 4;
+    fn detail(self) -> i32
+        ensures { result ≡ detail self };
+}
 
-pub const INPUT_OVERLOADED: u32 = 5;
+// A call that gives nothing has detail 0.
+impl Given for () {
+    ghost detail = { λ _. pos 0 };
 
-pub const OUTPUT_OVERLOADED: u32 = 6;
+    fn detail(self) -> i32 {
+        0
+    }
+}
 
-pub const TABLE_TOO_SHORT: u32 = 7;
+// A signed value.
+impl Given for i32 {
+    ghost detail = { λ value. value };
 
-pub const ENTRY_NOT_OF_ROW: u32 = 8;
+    fn detail(self) -> i32 {
+        self
+    }
+}
 
-pub const INPUT_TWICE_IN_SLOT: u32 = 9;
+// A count.
+impl Given for u16 {
+    ghost detail = { λ count. pos count };
 
-pub const COUNT_WRONG: u32 = 10;
+    fn detail(self) -> i32 {
+        i32::from(self)
+    }
+}
 
-pub const POSITION_PAST_FRAME: u32 = 11;
+impl<T: Given> From<Result<T, Refusal>> for Answer {
+    ghost from_gives = { λ outcome a. a ≡ answer_of T.detail outcome };
 
-pub const COUNTS_OR_SENT_MISSIZED: u32 = 12;
+    fn from(outcome: Result<T, Refusal>) -> Self {
+        match outcome {
+            Ok(given) => Answer {
+                number: DONE,
+                detail: given.detail(),
+            },
+            Err(refusal) => Answer::from(refusal),
+        }
+    }
+}
 
-pub const FLOW_UNKNOWN: u32 = 13;
-
-pub const WAITING_FULL: u32 = 14;
-
-pub const LINKS_OUT_OF_RANGE: u32 = 15;
-
-pub const DEADLINE_OUT_OF_RANGE: u32 = 16;
-
-pub const PERIOD_OUT_OF_RANGE: u32 = 17;
-
-pub const PERIOD_DOES_NOT_FIT: u32 = 18;
-
-pub const TEXT_TOO_LONG: u32 = 19;
-
-pub const TEXT_NOT_OF_FORM: u32 = 20;
-
-pub const BUFFER_TOO_SMALL: u32 = 21;
-
-pub const OUTPUT_OUT_OF_RANGE: u32 = 22;
-
-pub const BITS_OUT_OF_RANGE: u32 = 23;
-
-pub const DELAY_OUT_OF_RANGE: u32 = 25;
-
-pub const ENTRY_ABOVE_COUNTS: u32 = 28;
-
-pub const MESSAGE_MISSHAPEN: u32 = 30;
-
-pub const MESSAGE_ABOVE_WINDOW: u32 = 31;
-
-pub const TRD_ASKED_OUT_OF_RANGE: u32 = 32;
-
-pub const CYCLES_MISSIZED: u32 = 34;
+impl fmt::Display for Answer {
+    fn fmt<W: fmt::Write>(&self, f: &mut fmt::Formatter<W>) -> fmt::Result {
+        write!(f, "{},{}", self.number, self.detail)
+    }
+}
 
 pub const MAX_FRAME: usize = 2048;
 
@@ -105,48 +220,23 @@ pub const MAX_NODES: usize = 64;
 
 pub const MAX_TIME: usize = 10000;
 
-// An answer for which the list names no detail.
-pub fn refusal(number: u32) -> Answer
-    ensures { result ≡ refusal number }
-{
-    Answer { number, detail: 0 }
-}
-
-// An answer with a signed detail.
-pub fn detailed(number: u32, detail: i32) -> Answer
-    ensures { result ≡ answer number detail }
-{
-    Answer { number, detail }
-}
-
-// An answer that names a flow, a port, a place or a count.
-pub fn naming(number: u32, detail: usize) -> Answer
-    requires { detail < max_detail }
-    ensures { result ≡ answer number (pos detail) }
-{
-    Answer {
-        number,
-        detail: detail as i32,
-    }
-}
-
 // Whether x is not one of low, low + 1, .. high.
 pub fn outside(low: usize, high: usize, x: usize) -> bool
     ensures { result ≡ outside low high x }
 {
-    if x < low {
-        return true;
-    }
-    high < x
+    !(low..=high).contains(&x)
 }
 
-// How large a detail is, its sign left out.
-pub fn magnitude(detail: i32) -> u64
-    ensures { result ≡ nat_abs detail }
+// The lowest number of a range for which the test holds.
+pub fn first_where<F: Fn(usize) -> bool>(range: Range<usize>, test: F) -> Option<usize>
+    requires { (i : ℕ) → range.start ≤ i → i < range.end → F.pre test i }
+    ensures { (t : ℕ → Bool) → ((i : ℕ) → (b : Bool) → range.start ≤ i → i < range.end → F.post test i b → b ≡ t i) → result ≡ found range.start (range.end - range.start) t }
 {
-    let wide = detail as i64;
-    if wide < 0 {
-        return (0 - wide) as u64;
+    let Range { start, end } = range;
+    for i in start..end {
+        if test(i) {
+            return Some(i);
+        }
     }
-    wide as u64
+    None
 }
