@@ -1,3 +1,3 @@
 pub mod Bounds
-pub mod Rounding
 pub mod Times
+pub mod Rounding

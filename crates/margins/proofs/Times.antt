@@ -1,10 +1,11 @@
 -- The least number of times, reached by a division.
-use Prim.Native.Nat.{ℕ, zero, suc, ◌+◌, ◌-◌, ◌*◌, ◌/◌, ◌≤◌, ◌<◌}
+use Prim.Native.Nat.{ℕ, zero, suc, ◌+◌, ◌*◌, ◌/◌, ◌≤◌, ◌<◌}
+use Rattle.std.proofs.Common.{◌%◌, min}
+use Rattle.std.proofs.lemmas.Grind.{div_ceil_times}
 use mathlib.Core.Path.{◌≡◌, refl, sym, ap}
 use native.Mathlib.Omega.{arith}
 use native.Mathlib.Decide.{ℕ_discrete, dec_lt}
-use native.Mathlib.Nat.{div-add-mod', mod-lt, div-le_self, zero-mul, suc-mul, mul-le-mul_right, mul-le-mul_left, mul-one}
-use native.Mathlib.Numerals.{add-one}
+use native.Mathlib.Nat.{div-add-mod', mod-lt, zero-mul, suc-mul, mul-le-mul_right, mul-le-mul_left, mul-one}
 use borrow.Author.Tests.{le-leb, lt-leb}
 use lib.Dec.{leb}
 use Rattle.answers.specs.Lowest.{lowest}
@@ -28,27 +29,24 @@ module _ (d n : ℕ) (some : 0 < d) (least : ℕ) (reached : n ≤ least * d) (n
           all (yes e) = e
           all (no x) = absurd (omega (arith, not_before n (omega arith), mul-le-mul_left {m = 1} {n = d} n some, mul-one n))
 
-pub least_by_division : (d n : ℕ) → 0 < d → 0 < n → (n - 1) / d + 1 ≡ least_times d n
-least_by_division d n some more =
-    is_least d n some ((n - 1) / d + 1)
-    (omega (arith, div-add-mod' (n - 1) d, mod-lt (n - 1) some, suc-mul ((n - 1) / d) d, ap (λ (x : ℕ). x * d) (add-one ((n - 1) / d))))
-    (λ c u. omega (arith, div-add-mod' (n - 1) d, mul-le-mul_right {m = c} {n = (n - 1) / d} d (omega arith)))
-
-pub least_of_none : (d : ℕ) → 0 ≡ least_times d 0
-unfolding least_times
-least_of_none d = sym (lowest_none 0 0 (λ c. leb 0 (c * d)) (λ k l u. absurd (omega arith)))
+-- the division rounded up, as the library states it
+pub least_by_division : (d n : ℕ) → 0 < d → n / d + min 1 (n % d) ≡ least_times d n
+least_by_division d n some =
+    let up = div_ceil_times n d some in
+    is_least d n some (n / d + min 1 (n % d)) up.0 (λ c u. omega (arith, up.1, mul-le-mul_right {m = suc c} {n = n / d + min 1 (n % d)} d (omega arith), suc-mul c d))
 
 -- the least number of times reaches n, and no lower number does
-pub least_reaches : (d n : ℕ) → 0 < d → 0 < n → n ≤ least_times d n * d
-least_reaches d n some more =
-    omega (arith, ap (λ (x : ℕ). x * d) (least_by_division d n some more), div-add-mod' (n - 1) d, mod-lt (n - 1) some, suc-mul ((n - 1) / d) d, ap (λ (x : ℕ). x * d) (add-one ((n - 1) / d)))
+pub least_reaches : (d n : ℕ) → 0 < d → n ≤ least_times d n * d
+least_reaches d n some = rw (← least_by_division d n some) (div_ceil_times n d some).0
 
-pub lower_fails : (d n : ℕ) → 0 < d → 0 < n → (c : ℕ) → c < least_times d n → c * d < n
-lower_fails d n some more c u =
-    omega (arith, least_by_division d n some more, div-add-mod' (n - 1) d, mul-le-mul_right {m = c} {n = (n - 1) / d} d (omega (arith, least_by_division d n some more)))
+pub lower_fails : (d n : ℕ) → 0 < d → (c : ℕ) → c < least_times d n → c * d < n
+lower_fails d n some c u =
+    let e = least_by_division d n some in
+    let up = div_ceil_times n d some in
+    omega (arith, up.1, mul-le-mul_right {m = suc c} {n = n / d + min 1 (n % d)} d (omega arith), suc-mul c d)
 
-pub least_at_most : (d n : ℕ) → 0 < d → 0 < n → least_times d n ≤ n
-least_at_most d n some more = omega (arith, least_by_division d n some more, div-le_self (n - 1) d)
+pub least_at_most : (d n : ℕ) → 0 < d → least_times d n ≤ n / d + 1
+least_at_most d n some = omega (arith, least_by_division d n some)
 
 -- a number that is at least the divisor goes into it at least once
 pub quotient_some : (n m : ℕ) → 0 < m → m ≤ n → 0 < n / m
