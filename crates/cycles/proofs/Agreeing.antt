@@ -3,7 +3,7 @@ use Prim.Native.Nat.{ℕ, zero, suc, ◌+◌, ◌<◌}
 use mathlib.Core.Path.{◌≡◌, refl}
 use mathlib.Core.Bool.{Bool, not, cond, ◌&&◌}
 use native.Mathlib.Omega.{arith}
-use Rattle.cycles.specs.Cycle.{Network, size_of, path_of, no_room, takes, share, load_after, taken}
+use Rattle.cycles.specs.Cycle.{Network, size_of, path_of, no_room, takes, share, load_after}
 use Rattle.cycles.specs.HouseRule.{LowerDoNotCount}
 
 takes_same : (w w' : Network) (ready ready' : ℕ → Bool) (load load' : ℕ → ℕ) (i : ℕ)
@@ -43,9 +43,3 @@ lower_do_not_count i w w' ready ready' s due =
       paths = λ j u. s.same_paths j (omega arith);
       due = λ j u. due j (omega arith);
     }))
-
--- the same network, with lists of what is ready that agree on its first n messages
-pub ready_agrees : (w : Network) (n : ℕ) (ready ready' : ℕ → Bool) → ((j : ℕ) → j < n → ready j ≡ ready' j)
-    → (i : ℕ) → i < n → taken w ready i ≡ taken w ready' i
-ready_agrees w n ready ready' h i u =
-    lower_do_not_count i w w ready ready' (record { same_windows = refl; same_sizes = λ j l. refl; same_paths = λ j l. refl }) (λ j l. h j (omega arith))

@@ -1,9 +1,8 @@
--- Equation 1: how large its right side can be, and that the TRD answered is the least whole number above it.
-use Prim.Native.Nat.{ℕ, ◌+◌, ◌-◌, ◌*◌, ◌≤◌}
+-- Equation 1: that the TRD answered is the least whole number above its right side.
+use Prim.Native.Nat.{ℕ}
 use mathlib.Core.Path.{◌≡◌, sym, ◌∙◌, ap}
 use mathlib.Core.Bool.{false, ◌||◌}
 use native.Mathlib.Omega.{arith}
-use native.Mathlib.Nat.{mul-le-mul}
 use lib.Signed.{mag}
 use lib.IntN.{pos}
 use Rattle.answers.specs.declared.Answer.{Answer}
@@ -25,16 +24,6 @@ module _ (depth nodes sig tm sld : ℕ) where
 
   range_in : TrdAsked depth nodes sig tm sld → trd_out_of_range depth nodes sig tm sld ≡ false
   range_in r = λ k. within_test r.depth_in_range k || (within_test r.nodes_in_range k || (within_test r.sig_in_range k || (within_test r.tm_in_range k || within_test r.sld_in_range k)))
-
-  module _ (r : TrdAsked depth nodes sig tm sld) where
-    pub trigger_part : (depth - 1) * (tm + sld) ≤ max_depth * (max_time + max_time)
-    trigger_part = mul-le-mul {n₁ = depth - 1} {m₁ = tm + sld} {n₂ = max_depth} {m₂ = max_time + max_time} (omega arith) (omega arith)
-
-    pub nodes_part : nodes * sig ≤ max_nodes * max_time
-    nodes_part = mul-le-mul {n₁ = nodes} {m₁ = sig} {n₂ = max_nodes} {m₂ = max_time} (omega arith) (omega arith)
-
-    pub signal_part : depth * (sig + sld) ≤ max_depth * (max_time + max_time)
-    signal_part = mul-le-mul {n₁ = depth} {m₁ = sig + sld} {n₂ = max_depth} {m₂ = max_time + max_time} (omega arith) (omega arith)
 
   done_asked : {n : ℕ} → trd_answer depth nodes sig tm sld ≡ done_with (pos n) → NoneHolds (trd_rules depth nodes sig tm sld)
   unfolding trd_answer

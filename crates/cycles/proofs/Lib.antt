@@ -2,9 +2,9 @@ pub mod Agreeing
 pub mod Loads
 pub mod Messages
 pub mod Turns
-pub mod CycleOver
 pub mod ResponseLaws
 pub mod Judged
 pub mod Named
 pub mod Outcomes
 pub mod Equation
+pub mod Stored

@@ -1,36 +1,35 @@
--- One message more is looked at: what the loop over the messages adds. X is the loads in the lent list, X₀ what it held before the cycle.
-use Prim.Native.Nat.{ℕ, suc, ◌+◌, ◌≤◌, ◌<◌}
+-- One message more is looked at: what the loop over the messages adds. X is the loads so far.
+use Prim.Native.Nat.{ℕ, ◌+◌, ◌≤◌, ◌<◌}
 use mathlib.Core.Path.{◌≡◌, refl, sym, ◌∙◌, ap}
-use mathlib.Core.Bool.{Bool, true, false, not, cond, ◌&&◌, and-false}
+use mathlib.Core.Bool.{Bool, true, false, not, cond, ◌&&◌}
 use mathlib.Core.List.{List}
 use native.Mathlib.Omega.{arith}
 use native.Mathlib.Numerals.{add-one}
-use borrow.Author.Tests.{ne_eqb}
-use lib.ListN.{length, get_or}
-use lib.Dec.{eqb, ltb}
-use Rattle.answers.specs.Buffers.{written}
-use Rattle.answers.proofs.Buffers.{written_at, written_agree, written_again}
+use lib.ListN.{length, get_or, set as list_set, length-set, replicate, take}
+use lib.Dec.{ltb}
+use lib.Seq.{get_or-set_same, get_or-set_other}
+use borrow.Author.Count.{below_more}
+use Rattle.std.proofs.lemmas.List.{get_or-replicate, get_or-take, length-take}
+use Rattle.answers.specs.Limits.{max_messages}
 use Rattle.answers.proofs.Lowest.{lowest_agree}
-use Rattle.cycles.specs.Cycle.{Network, links, size_of, path_of, in_set, too_much, no_room, share, load_after, taken, marked}
-use Rattle.cycles.specs.Steps.{load_in, AllFit, takes_now, added}
+use Rattle.cycles.specs.Cycle.{Network, links, size_of, path_of, in_set, too_much, no_room, share, load_after, taken}
+use Rattle.cycles.specs.Steps.{load_in, AllFit}
 use Rattle.cycles.proofs.Loads.{load_none, load_step, room_on}
 
 -- where there is room, the loads stay numbers of 16 bits, as the windows are
-pub all_fit : (W X : List ℕ) (size set : ℕ) → ((l : ℕ) → get_or W l 0 < 65536) → ((l : ℕ) → load_in X l < 65536)
-    → no_room W (load_in X) size set ≡ false → AllFit size set (length W) X
+pub all_fit : (W X : List ℕ) (size set : ℕ) → ((l : ℕ) → get_or W l 0 < 65536) → ((l : ℕ) → get_or X l 0 < 65536)
+    → no_room W (load_in X) size set ≡ false → AllFit size set (length (take (length W) X)) (take (length W) X)
 all_fit W X size set windows loads e l u = go (in_set set l) refl
   where
-    go : (b : Bool) → in_set set l ≡ b → load_in X l + cond b size 0 < 65536
-    go true on = omega (arith, room_on W (load_in X) size set e l u on, windows l)
-    go false on = omega (arith, loads l)
+    there : l < length W
+    there = omega (arith, length-take (length W) X)
 
--- a message that is held, and one that is not
-module _ (W X : List ℕ) (size set ready : ℕ) where
-  pub held : no_room W (load_in X) size set ≡ true → takes_now W X size set ready ≡ false
-  held e = ap (λ (b : Bool). not (eqb ready 0) && not b) e ∙ and-false (not (eqb ready 0))
+    same : load_in (take (length W) X) l ≡ load_in X l
+    same = get_or-take (length W) X l 0 there
 
-  pub goes : (ready ≡ 0 → ⊥) → no_room W (load_in X) size set ≡ false → takes_now W X size set ready ≡ true
-  goes d e = λ k. not (ne_eqb ready 0 d k) && not (e k)
+    go : (b : Bool) → in_set set l ≡ b → load_in (take (length W) X) l + cond b size 0 < 65536
+    go true on = omega (arith, same, room_on W (load_in X) size set e l there on, windows l)
+    go false on = omega (arith, same, loads l)
 
 -- only the loads of the links count
 pub no_room_agrees : (W : List ℕ) (f g : ℕ → ℕ) (size set : ℕ) → ((l : ℕ) → l < length W → f l ≡ g l) → no_room W f size set ≡ no_room W g size set
@@ -38,32 +37,35 @@ no_room_agrees W f g size set h =
     ap (λ (x : ℕ). ltb x (0 + length W))
     (lowest_agree 0 (length W) (too_much W f size set) (too_much W g size set) (λ l a u. ap (λ (x : ℕ). in_set set l && ltb (get_or W l 0) (x + size)) (h l (omega arith))))
 
--- before the first message no link has a load
-pub none_loaded : (w : Network) (ready : ℕ → Bool) (X₀ X : List ℕ) → X ≡ written (links w) (λ l. 0) X₀ → X ≡ written (links w) (load_after w ready 0) X₀
-none_loaded w ready X₀ X e = e ∙ written_agree (λ l. 0) (load_after w ready 0) X₀ (links w) (λ l u. sym (load_none w ready l))
+-- the loads of a cycle that took nothing
+pub nothing_loaded : (W : List ℕ) (n size set : ℕ) → length W ≤ n → no_room W (load_in (replicate n 0)) size set ≡ no_room W (λ l. 0) size set
+nothing_loaded W n size set few = no_room_agrees W (load_in (replicate n 0)) (λ l. 0) size set (λ l u. get_or-replicate n l 0 0 (omega arith))
 
-module _ (w : Network) (B X₀ X : List ℕ) (i : ℕ) (room : links w ≤ length X₀) (so_far : X ≡ written (links w) (load_after w (marked B) i) X₀) where
-  load_at : (l : ℕ) → l < links w → load_in X l ≡ load_after w (marked B) i l
-  load_at l u = ap (λ (x : List ℕ). load_in x l) so_far ∙ written_at (load_after w (marked B) i) X₀ (links w) l u room
+-- the first i messages were looked at: T tells which of them are taken, X is what they put on the links
+pub record LookedAt (w : Network) (ready : ℕ → Bool) (T : List Bool) (X : List ℕ) (i : ℕ) : Type 0 where
+  pub taken_all : length T ≡ max_messages
+  pub taken_of : (j : ℕ) → j < i → get_or T j false ≡ taken w ready j
+  pub load_at : (l : ℕ) → l < links w → load_in X l ≡ load_after w ready i l
 
-  pub takes_it : takes_now w.windows X (size_of w i) (path_of w i) (get_or B i 0) ≡ taken w (marked B) i
-  takes_it = ap (λ (b : Bool). not (eqb (get_or B i 0) 0) && not b) (no_room_agrees w.windows (load_in X) (load_after w (marked B) i) (size_of w i) (path_of w i) load_at)
+pub none_looked_at : (w : Network) (ready : ℕ → Bool) (T : List Bool) (n : ℕ) → length T ≡ max_messages → links w ≤ n → LookedAt w ready T (replicate n 0) 0
+none_looked_at w ready T n all few =
+    record { taken_all = all; taken_of = λ j u. absurd (omega arith); load_at = λ l u. get_or-replicate n l 0 0 (omega arith) ∙ sym (load_none w ready l) }
 
-  module _ (b : Bool) (X' : List ℕ) (took : b ≡ taken w (marked B) i) (after : X' ≡ cond b (added (links w) (size_of w i) (path_of w i) X) X) where
-    abbrev put : Bool → ℕ → ℕ
-    put t l = load_after w (marked B) i l + cond t (share (size_of w i) (path_of w i) l) 0
-
-    by_case : (t : Bool) → cond t (added (links w) (size_of w i) (path_of w i) X) X ≡ written (links w) (put t) X₀
-    by_case true =
-        written_agree (λ l. load_in X l + share (size_of w i) (path_of w i) l) (put true) X (links w) (λ l u. ap (λ (x : ℕ). x + share (size_of w i) (path_of w i) l) (load_at l u))
-        ∙ ap (λ (x : List ℕ). written (links w) (put true) x) so_far
-        ∙ written_again (load_after w (marked B) i) (put true) X₀ (links w) room
-    by_case false = so_far ∙ written_agree (load_after w (marked B) i) (put false) X₀ (links w) (λ l u. omega arith)
-
-    pub loads_more : X' ≡ written (links w) (load_after w (marked B) (i + 1)) X₀
-    loads_more =
-        after
-        ∙ by_case b
-        ∙ ap (λ (t : Bool). written (links w) (put t) X₀) took
-        ∙ written_agree (put (taken w (marked B) i)) (load_after w (marked B) (suc i)) X₀ (links w) (λ l u. sym (load_step w (marked B) i l))
-        ∙ ap (λ (n : ℕ). written (links w) (load_after w (marked B) n) X₀) (sym (add-one i))
+-- one more was: r is whether it was ready, t whether it was taken
+module _ (w : Network) (ready : ℕ → Bool) (T : List Bool) (X X' : List ℕ) (i size set : ℕ) (r t : Bool) where
+  pub one_looked_at : LookedAt w ready T X i → i < max_messages → r ≡ ready i → size ≡ size_of w i → set ≡ path_of w i
+      → t ≡ (r && not (no_room w.windows (load_in X) size set))
+      → ((l : ℕ) → l < links w → load_in X' l ≡ load_in X l + cond t (share size set l) 0)
+      → LookedAt w ready (list_set T i t) X' (i + 1)
+  one_looked_at was room due same_size same_path takes adds =
+      record {
+        taken_all = length-set T i t ∙ was.taken_all;
+        taken_of = below_more _ i (λ j u. get_or-set_other T i j t false (λ e. omega arith) ∙ was.taken_of j u) (get_or-set_same T i t false (omega (arith, was.taken_all)) ∙ took);
+        load_at = λ l u. adds l u ∙ (λ k. was.load_at l u k + cond (took k) (share (same_size k) (same_path k) l) 0) ∙ sym (load_step w ready i l) ∙ ap (λ (n : ℕ). load_after w ready n l) (sym (add-one i));
+      }
+    where
+      took : t ≡ taken w ready i
+      took =
+          takes
+          ∙ (λ k. due k && not (no_room w.windows (load_in X) (same_size k) (same_path k)))
+          ∙ ap (λ (b : Bool). ready i && not b) (no_room_agrees w.windows (load_in X) (load_after w ready i) (size_of w i) (path_of w i) was.load_at)

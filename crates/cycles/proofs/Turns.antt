@@ -1,21 +1,39 @@
 -- When a run takes a message: not before its release, and once. So its response, cycle by cycle, is a mark until a cycle takes it.
-use Prim.Native.Nat.{ℕ, zero, suc, ◌≤◌, ◌<◌}
+use Prim.Native.Nat.{ℕ, zero, suc, ◌+◌, ◌≤◌, ◌<◌}
 use mathlib.Core.Path.{◌≡◌, refl, sym, ◌∙◌, ap}
-use mathlib.Core.Bool.{Bool, true, false, not, cond, ◌&&◌, ◌||◌, true≢false}
+use mathlib.Core.Bool.{Bool, true, false, not, cond, ◌||◌, true≢false}
 use mathlib.Core.List.{List}
 use native.Mathlib.Omega.{arith}
 use native.Mathlib.Decide.{ℕ_discrete, dec_lt}
-use borrow.Author.Tests.{leb-true, lt-ltb, not-true, eq-eqb, ne_eqb}
-use lib.Dec.{leb, eqb}
-use Rattle.answers.specs.Limits.{max_cycles}
-use Rattle.answers.specs.Lowest.{lowest}
-use Rattle.answers.proofs.Lowest.{Nowhere, lowest_is}
+use borrow.Author.Tests.{leb-true, not-true}
+use lib.Dec.{leb}
+use lib.ListN.{replicate}
+use Rattle.std.proofs.Common.{Option, Some, None}
+use Rattle.std.proofs.lemmas.List.{get_or-replicate}
+use Rattle.std.specs.Option.{option_or}
+use Rattle.std.specs.Bool.{then_some}
+use Rattle.answers.specs.Lowest.{lowest, holds_somewhere, found}
+use Rattle.answers.proofs.Lowest.{Nowhere, lowest_is, lowest_found, nowhere_more, somewhere_false, somewhere_test, nowhere_test, some_found, none_found, found_some, found_none}
 use Rattle.answers.proofs.Ranges.{both_true, either_false}
-use Rattle.cycles.specs.Cycle.{Network}
-use Rattle.cycles.specs.Run.{STILL_WAITING, RELEASED_PAST_RUN, release_of, taken_before, ready_in, taken_in, mark_for, cycles_through, response_by}
-use Rattle.cycles.specs.Steps.{still_ready, response_after}
+use Rattle.cycles.specs.Cycle.{Network, messages}
+use Rattle.cycles.specs.Run.{release_of, taken_before, ready_in, taken_in, mark_for, cycles_through, response_by}
+use Rattle.cycles.specs.Steps.{TookBefore}
 use Rattle.cycles.specs.Responses.{TakenFromRelease, TakenOnce}
 use Rattle.cycles.proofs.Loads.{was_ready}
+
+-- what a search finds over one number more
+pub found_more : (n : ℕ) (test : ℕ → Bool) → found 0 (n + 1) test ≡ option_or (found 0 n test) (then_some (test n) n)
+found_more n test = go (found 0 n test) refl (test n) refl
+  where
+    none : None ≡ found 0 n test → Nowhere 0 n test
+    none e k a u = somewhere_false 0 n test (found_none 0 n test e) k a (omega arith)
+
+    go : (o : Option ℕ) → o ≡ found 0 n test → (b : Bool) → test n ≡ b → found 0 (n + 1) test ≡ option_or o (then_some b n)
+    go (Some k) e b t =
+        let at = found_some 0 n test k e in
+        sym (some_found 0 (n + 1) test k at.low (omega (arith, at.high)) at.there (λ j a u. (lowest_found 0 n test).none_lower j a (omega (arith, at.is))))
+    go None e true t = sym (some_found 0 (n + 1) test n (omega arith) (omega arith) t (none e))
+    go None e false t = sym (none_found 0 (n + 1) test (λ k a u. nowhere_more 0 n test (none e) t k a (omega arith)))
 
 module _ (w : Network) (R : List ℕ) (i : ℕ) where
   pub before_none : taken_before w R 0 i ≡ false
@@ -90,41 +108,23 @@ module _ (w : Network) (R : List ℕ) (i : ℕ) where
   response_not cycles t e =
       ap (λ (b : Bool). cond b (cycles_through (release_of R i) (lowest 0 t (λ x. taken_in w R x i))) (mark_for (release_of R i) cycles)) e
 
-  -- one cycle more
-  pub response_step : (cycles t : ℕ)
-      → response_after (taken_in w R t i) (release_of R i) t (response_by w R cycles t i) ≡ response_by w R cycles (suc t) i
-  response_step cycles t = go (taken_in w R t i) refl (taken_before w R t i) refl
+  -- that one of them took it is what a search over them finds
+  pub before_found : (t : ℕ) → taken_before w R t i ≡ holds_somewhere 0 t (λ u. taken_in w R u i)
+  before_found t = go (taken_before w R t i) refl
     where
-      go : (a : Bool) → taken_in w R t i ≡ a → (b : Bool) → taken_before w R t i ≡ b
-          → response_after a (release_of R i) t (response_by w R cycles t i) ≡ response_by w R cycles (suc t) i
-      go true e b g = sym (response_taken cycles t (suc t) (omega arith) e)
-      go false e true g =
-          let found = which_before t g in
-          response_taken cycles found.0 t found.1 found.2 ∙ sym (response_taken cycles found.0 (suc t) (omega (arith, found.1)) found.2)
-      go false e false g =
-          response_not cycles t g
-          ∙ sym (response_not cycles (suc t) (before_step t ∙ ap (λ (x : Bool). x || taken_in w R t i) g ∙ e))
+      go : (b : Bool) → taken_before w R t i ≡ b → b ≡ holds_somewhere 0 t (λ u. taken_in w R u i)
+      go true e =
+          let which = which_before t e in
+          sym (somewhere_test 0 t (λ u. taken_in w R u i) which.0 (omega arith) (omega (arith, which.1)) which.2)
+      go false e = sym (nowhere_test 0 t (λ u. taken_in w R u i) (λ u a l. none_before t e u a (omega arith)))
 
-  -- while the run goes on, the responses tell which messages wait: no response is as large as the mark
-  module _ (cycles t : ℕ) (few : cycles ≤ max_cycles) (within : t < cycles) where
-    taken_told : taken_before w R t i ≡ true → eqb (response_by w R cycles t i) STILL_WAITING ≡ false
-    taken_told g =
-        let found = which_before t g in
-        ne_eqb (response_by w R cycles t i) STILL_WAITING (λ e. omega (arith, e, response_taken cycles found.0 t found.1 found.2, found.1))
+  -- what it finds comes at or after the release
+  pub found_released : (t u : ℕ) → Some u ≡ found 0 t (λ x. taken_in w R x i) → release_of R i ≤ u
+  found_released t u e = (waited u (found_some 0 t (λ x. taken_in w R x i) u e).there).0
 
-    waiting_told : release_of R i ≤ t → taken_before w R t i ≡ false → eqb (response_by w R cycles t i) STILL_WAITING ≡ true
-    waiting_told l g =
-        eq-eqb (response_by w R cycles t i) STILL_WAITING
-        (response_not cycles t g ∙ ap (λ (b : Bool). cond b STILL_WAITING RELEASED_PAST_RUN) (lt-ltb (release_of R i) cycles (omega arith)))
-
-    pub ready_told : still_ready (release_of R i) (response_by w R cycles t i) t ≡ ready_in w R t i
-    ready_told = go (leb (release_of R i) t) refl (taken_before w R t i) refl
-      where
-        go : (a : Bool) → leb (release_of R i) t ≡ a → (b : Bool) → taken_before w R t i ≡ b
-            → (a && eqb (response_by w R cycles t i) STILL_WAITING) ≡ (a && not b)
-        go false e b g = refl
-        go true e true g = taken_told g
-        go true e false g = waiting_told (leb-true (release_of R i) t e) g
+-- before the first cycle none took any message
+pub none_took : (w : Network) (R : List ℕ) (n : ℕ) → messages w ≤ n → TookBefore w R 0 (replicate n None)
+none_took w R n few i u = get_or-replicate n i None None (omega arith) ∙ none_found 0 0 (λ t. taken_in w R t i) (λ k a b. absurd (omega arith))
 
 pub taken_from_release : TakenFromRelease
 taken_from_release w R t i e = (waited w R i t e).0

@@ -7,3 +7,4 @@ pub mod Promises
 pub mod Refusals
 pub mod HouseRule
 pub mod Responses
+pub mod Lent

@@ -1,9 +1,10 @@
--- What the functions inside the crate promise each other: one message's step, and one cycle's step of a run. X is loads or responses so far.
-use Rattle.std.specs.Prelude.{ℕ, ◌+◌, ◌≤◌, ◌<◌, ◌≡◌, Bool, not, cond, ◌&&◌, List, length, get_or, eqb, leb}
+-- What the functions inside the crate promise each other: loads, what a cycle took, and what a run knows between its cycles. X is the loads so far.
+use Rattle.std.specs.Prelude.{ℕ, ◌+◌, ◌≤◌, ◌<◌, ◌≡◌, Bool, false, List, Option, None, length, get_or}
 use Rattle.answers.specs.Limits.{max_cycle_links, max_messages}
-use Rattle.answers.specs.Buffers.{written}
-use Rattle.cycles.specs.Cycle.{Network, no_room, share, taken}
-use Rattle.cycles.specs.Run.{STILL_WAITING, release_of, cycles_through}
+use Rattle.answers.specs.Lowest.{found}
+use Rattle.cycles.specs.declared.taking.Taken.{Taken}
+use Rattle.cycles.specs.Cycle.{Network, links, messages, share, taken, load_of}
+use Rattle.cycles.specs.Run.{taken_in}
 
 abbrev pub load_in : List ℕ → ℕ → ℕ
 load_in X l = get_or X l 0
@@ -12,35 +13,14 @@ load_in X l = get_or X l 0
 abbrev pub AllFit : ℕ → ℕ → ℕ → List ℕ → Type 0
 AllFit size set links X = (l : ℕ) → l < links → load_in X l + share size set l < 65536
 
--- a message that is ready, by its byte, is taken with these loads
-abbrev pub takes_now : List ℕ → List ℕ → ℕ → ℕ → ℕ → Bool
-takes_now W X size set ready = not (eqb ready 0) && not (no_room W (load_in X) size set)
+-- a cycle in which these messages are ready takes just the messages told, and leaves the loads told
+pub record Took (w : Network) (ready : ℕ → Bool) (t : Taken) : Type 0 where
+  pub messages_taken : (i : ℕ) → i < messages w → get_or t.messages i false ≡ taken w ready i
+  pub loads : (l : ℕ) → l < links w → load_in t.loads l ≡ load_of w ready l
 
--- the loads with the message on its links
-abbrev pub added : ℕ → ℕ → ℕ → List ℕ → List ℕ
-added links size set X = written links (λ l. load_in X l + share size set l) X
-
--- a message is released by cycle t, and its response says that it still waits
-abbrev pub still_ready : ℕ → ℕ → ℕ → Bool
-still_ready release response t = leb release t && eqb response STILL_WAITING
-
-abbrev pub ready_now : List ℕ → List ℕ → ℕ → ℕ → Bool
-ready_now R X t i = still_ready (release_of R i) (get_or X i 0) t
-
--- what is taken, by its byte, was released by cycle t
-abbrev pub InTime : ℕ → ℕ → ℕ → Type 0
-InTime byte release t = (byte ≡ 0 → ⊥) → release ≤ t
-
-abbrev pub AllInTime : List ℕ → List ℕ → ℕ → Type 0
-AllInTime R B t = (i : ℕ) → i < length R → InTime (get_or B i 0) (release_of R i) t
-
--- the response after cycle t, if it took the message and if not
-abbrev pub response_after : Bool → ℕ → ℕ → ℕ → ℕ
-response_after wasTaken release t before = cond wasTaken (cycles_through release t) before
-
--- all responses after cycle t
-abbrev pub after_cycle : Network → List ℕ → ℕ → List ℕ → List ℕ
-after_cycle w R t X = written (length R) (λ i. response_after (taken w (ready_now R X t) i) (release_of R i) t (get_or X i 0)) X
+-- of each message it is told which of the cycles before t of a run took it, if one did
+abbrev pub TookBefore : Network → List ℕ → ℕ → List (Option ℕ) → Type 0
+TookBefore w R t T = (i : ℕ) → i < messages w → get_or T i None ≡ found 0 t (λ u. taken_in w R u i)
 
 -- what a run asks of its lists' lengths
 pub record RunSized (W S P R X : List ℕ) : Type 0 where

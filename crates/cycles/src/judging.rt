@@ -1,122 +1,117 @@
 // What is refused of a network: its lists' lengths first, then its messages, one after the other.
-ghost use Rattle.std.specs.Prelude.{◌≡◌, ◌≤◌, length};
-ghost use Rattle.answers.specs.Limits.{max_cycle_links};
-ghost use Rattle.answers.specs.Lowest.{lowest};
-ghost use Rattle.cycles.specs.Cycle.{network};
-ghost use Rattle.cycles.specs.Judging.{missized, link_missing, misshapen, above_window, message_misshapen, message_above_window, network_answer};
+ghost use Rattle.std.specs.Prelude.{◌≡◌, ◌≤◌, ◌<◌, length, pos, get_or, false, IfOk};
+ghost use Rattle.answers.specs.Limits.{max_cycle_links, max_messages};
+ghost use Rattle.answers.specs.Lowest.{found};
+ghost use Rattle.answers.specs.Answers.{answer_of};
+ghost use Rattle.cycles.specs.Lent.{of_network};
+ghost use Rattle.cycles.specs.Judging.{network_missized, link_missing, misshapen, above_window, message_misshapen, message_above_window, network_answer};
 
-use crate::links;
-use answers::{Answer, naming, refusal};
+use crate::Network;
+use crate::links::Message;
+use answers::{MAX_CYCLE_LINKS, MAX_MESSAGES, Refusal, first_where};
 
-// Refusal 34 of a network.
-fn missized(links: usize, messages: usize, sets: usize) -> bool
-    ensures { result ≡ missized links messages sets }
-{
-    if answers::MAX_CYCLE_LINKS < links {
-        return true;
-    }
-    if answers::MAX_MESSAGES < messages {
-        return true;
-    }
-    sets != messages
+// A network that refusal 34 is not due of: not too many links and messages, and a set for each message.
+#[derive(Clone, Copy)]
+pub struct Judged<'a> {
+    pub network: Network<'a>,
+    ghost few_links: { length network.windows.now ≤ max_cycle_links },
+    ghost few_messages: { length network.sizes.now ≤ max_messages },
+    ghost as_many_sets: { length network.paths.now ≡ length network.sizes.now },
 }
 
-// Whether a set has a link that is not there.
-fn link_missing(links: usize, set: u32) -> bool
-    requires { links ≤ max_cycle_links }
-    ensures { result ≡ link_missing links set }
-{
-    let mut link = links;
-    while link < answers::MAX_CYCLE_LINKS {
-        if links::in_set(set, link) {
-            return true;
+impl<'a> Network<'a> {
+    // Refusal 34 of a network.
+    fn missized(&self) -> bool
+        ensures { result ≡ network_missized (of_network self.now) }
+    {
+        MAX_CYCLE_LINKS < self.links()
+            || MAX_MESSAGES < self.messages()
+            || self.paths.len() != self.messages()
+    }
+
+    // What every call about a network refuses, in order: 34, 30, 31, 21. The call says whether its other lists and numbers are missized, and whether
+    // a lent buffer is too short.
+    #[tactic(auto, unfolding(crate::specs::Judging::network_answer))]
+    pub(crate) fn judge(self, other_missized: bool, too_short: bool) -> Result<Judged<'a>, Refusal>
+        ensures answered { answer_of (λ _. pos 0) result ≡ network_answer (of_network self.entry) other_missized too_short }
+        ensures same { IfOk result (λ judged. judged.network ≡ self.entry) }
+        ensures sized { IfOk result (λ _. other_missized ≡ false) }
+        ensures room { IfOk result (λ _. too_short ≡ false) }
+    {
+        if self.missized() || other_missized {
+            return Err(Refusal::CyclesMissized);
         }
-        link += 1;
-    }
-    false
-}
-
-// Refusal 30 of one message.
-fn misshapen(links: usize, size: u16, set: u32) -> bool
-    requires { links ≤ max_cycle_links }
-    ensures { result ≡ misshapen links size set }
-{
-    if set == 0 {
-        return true;
-    }
-    if link_missing(links, set) {
-        return true;
-    }
-    size == 0
-}
-
-// The lowest message that refusal 30 names, or the number of messages.
-fn first_misshapen(windows: &[u16], sizes: &[u16], paths: &[u32]) -> usize
-    requires few { length windows.now ≤ max_cycle_links }
-    requires sets { length paths.now ≡ length sizes.now }
-    ensures { result ≡ lowest 0 (length sizes.now) (message_misshapen (network windows.now sizes.now paths.now)) }
-{
-    let mut message = 0;
-    while message < sizes.len() {
-        if misshapen(windows.len(), sizes[message], paths[message]) {
-            return message;
+        let judged = Judged { network: self };
+        if let Some(place) = judged.first_misshapen() {
+            return Err(Refusal::MessageMisshapen(place as u16));
         }
-        message += 1;
-    }
-    message
-}
-
-// Refusal 31 of one message: no room for it though nothing was taken.
-fn above_window(windows: &[u16], size: u16, set: u32) -> bool
-    requires { length windows.now ≤ max_cycle_links }
-    ensures { result ≡ above_window windows.now size set }
-{
-    let nothing = [0u16; answers::MAX_CYCLE_LINKS];
-    links::no_room(windows, &nothing, size, set)
-}
-
-// The lowest message that refusal 31 names, or the number of messages.
-fn first_above_window(windows: &[u16], sizes: &[u16], paths: &[u32]) -> usize
-    requires few { length windows.now ≤ max_cycle_links }
-    requires sets { length paths.now ≡ length sizes.now }
-    ensures { result ≡ lowest 0 (length sizes.now) (message_above_window (network windows.now sizes.now paths.now)) }
-{
-    let mut message = 0;
-    while message < sizes.len() {
-        if above_window(windows, sizes[message], paths[message]) {
-            return message;
+        if let Some(place) = judged.first_above_window() {
+            return Err(Refusal::MessageAboveWindow(place as u16));
         }
-        message += 1;
+        if too_short {
+            return Err(Refusal::BufferTooSmall);
+        }
+        Ok(judged)
     }
-    message
 }
 
-// What a call about a network answers; the call says whether its other lists and numbers are missized, and whether a lent buffer is too short.
-pub fn network_answer(
-    windows: &[u16],
-    sizes: &[u16],
-    paths: &[u32],
-    other_missized: bool,
-    too_short: bool,
-) -> Answer
-    ensures { result ≡ network_answer (network windows.now sizes.now paths.now) other_missized too_short }
-{
-    if missized(windows.len(), sizes.len(), paths.len()) {
-        return refusal(answers::CYCLES_MISSIZED);
+impl Judged<'_> {
+    // The links' windows.
+    pub(crate) fn windows(&self) -> &[u16]
+        ensures { result.now ≡ self.now.network.windows.now }
+    {
+        self.network.windows
     }
-    if other_missized {
-        return refusal(answers::CYCLES_MISSIZED);
+
+    // A message, by its place in the order of priorities.
+    pub(crate) fn message(&self, place: usize) -> Message
+        requires { place < length self.now.network.sizes.now }
+        ensures size { result.size ≡ get_or self.now.network.sizes.now place 0 }
+        ensures path { result.path ≡ get_or self.now.network.paths.now place 0 }
+    {
+        Message {
+            size: self.network.sizes[place],
+            path: self.network.paths[place],
+        }
     }
-    let strange = first_misshapen(windows, sizes, paths);
-    if strange < sizes.len() {
-        return naming(answers::MESSAGE_MISSHAPEN, strange);
+
+    // Whether a message's set has a link that is not there.
+    fn link_missing(&self, message: Message) -> bool
+        ensures { result ≡ link_missing (length self.now.network.windows.now) message.path }
+    {
+        let past_the_last = self.network.links()..MAX_CYCLE_LINKS;
+        first_where(past_the_last, |link| message.crosses(link)).is_some()
     }
-    let large = first_above_window(windows, sizes, paths);
-    if large < sizes.len() {
-        return naming(answers::MESSAGE_ABOVE_WINDOW, large);
+
+    // Refusal 30 of one message: an empty set, a link that is not there, or size 0.
+    fn misshapen(&self, message: Message) -> bool
+        ensures { result ≡ misshapen (length self.now.network.windows.now) message.size message.path }
+    {
+        message.path == 0 || self.link_missing(message) || message.size == 0
     }
-    if too_short {
-        return refusal(answers::BUFFER_TOO_SMALL);
+
+    // The lowest message that refusal 30 names.
+    fn first_misshapen(&self) -> Option<usize>
+        ensures { result ≡ found 0 (length self.now.network.sizes.now) (message_misshapen (of_network self.now.network)) }
+    {
+        first_where(0..self.network.messages(), |place| {
+            self.misshapen(self.message(place))
+        })
     }
-    refusal(answers::DONE)
+
+    // Refusal 31 of one message: no room for it though nothing was taken.
+    fn above_window(&self, message: Message) -> bool
+        ensures { result ≡ above_window self.now.network.windows.now message.size message.path }
+    {
+        self.no_room(message, &[0; MAX_CYCLE_LINKS])
+    }
+
+    // The lowest message that refusal 31 names.
+    fn first_above_window(&self) -> Option<usize>
+        ensures { result ≡ found 0 (length self.now.network.sizes.now) (message_above_window (of_network self.now.network)) }
+    {
+        first_where(0..self.network.messages(), |place| {
+            self.above_window(self.message(place))
+        })
+    }
 }
