@@ -1,46 +1,37 @@
 -- The check's conditions and the definition of accepted say the same of a table.
-use Prim.Native.Nat.{ℕ, zero, suc, ◌+◌, ◌*◌, ◌/◌, ◌%◌, ◌<◌}
-use mathlib.Core.Path.{◌≡◌, refl, sym, ◌∙◌, ap, subst}
-use mathlib.Core.Logic.{◌⊎◌, inl, inr}
-use mathlib.Core.Bool.{Bool, true, false, not, ◌&&◌, ◌||◌, true≢false, and-false}
+use Prim.Native.Nat.{ℕ, suc, ◌+◌, ◌*◌, ◌/◌, ◌%◌, ◌≤◌, ◌<◌}
+use mathlib.Core.Path.{◌≡◌, sym, ◌∙◌, subst}
+use mathlib.Core.Logic.{◌⊎◌}
+use mathlib.Core.Bool.{true, false, not, ◌&&◌, true≢false}
 use mathlib.Core.List.{List}
 use native.Mathlib.Omega.{arith}
-use native.Mathlib.Decide.{ℕ_discrete, dec_lt}
 use native.Mathlib.Nat.{div-add-mod', mod-lt, div-lt_iff_lt-mul, mul-zero}
-use borrow.Author.Tests.{eq-eqb, ne_eqb, eqb-true, eqb-false, not-true, not-false, ltb-true}
+use borrow.Author.Tests.{ltb-true}
 use lib.Dec.{eqb}
+use Rattle.std.proofs.lemmas.Bool.Decides.{nat_tests}
 use lib.ListN.{get_or}
 use lib.Arith.{digits_lt, digits_div}
-use Rattle.answers.specs.Limits.{outside}
 use Rattle.answers.specs.Lowest.{lowest, holds_somewhere}
-use Rattle.answers.proofs.Ranges.{inside, within_test, either_false, both_true, second_false}
 use Rattle.answers.proofs.Lowest.{Nowhere, lowest_found, somewhere_false, nowhere_test, somewhere_test}
 use Rattle.answers.proofs.First.{NoneHolds}
 use Rattle.flows.specs.Flows.{flow_count, input_of, goes_to}
 use Rattle.tables.specs.Accepted.{entry, FlowOf, Accepted, NotOfRow, InputTwice, CountWrong}
 use Rattle.tables.specs.Check.{no_flow_of, not_of_row, share_input, input_twice, count_wrong, entry_rules}
 
+-- a flow of the list with that output, of its three facts
+entry_flow : (L : List ℕ) (j e : ℕ) → 1 ≤ e → e ≤ flow_count L → goes_to L e j ≡ true → FlowOf L j e
+entry_flow L j e u v w = record { is_flow = record { at_least = u; at_most = v }; its_output = w }
+
 -- an entry that refusal 8 does not name is 0 or a flow of its row, and the other way round
 entry_right : (L : List ℕ) (j e : ℕ) → (not (eqb e 0) && no_flow_of L j e) ≡ false → (e ≡ 0) ⊎ FlowOf L j e
-entry_right L j e h = go (ℕ_discrete e 0)
-  where
-    go : Dec (e ≡ 0) → (e ≡ 0) ⊎ FlowOf L j e
-    go (yes z) = inl z
-    go (no d) =
-        let both = either_false (outside 1 (flow_count L) e) (not (goes_to L e j)) (second_false (not (eqb e 0)) (no_flow_of L j e) h (ap not (ne_eqb e 0 d))) in
-        inr (record { is_flow = inside both.0; its_output = not-false (goes_to L e j) both.1 })
+entry_right L j e h = grind (arith, nat_tests, entry_flow)
 
 right_entry : (L : List ℕ) (j e : ℕ) → (e ≡ 0) ⊎ FlowOf L j e → (not (eqb e 0) && no_flow_of L j e) ≡ false
-right_entry L j e (inl z) = rw (eq-eqb e 0 z)
-right_entry L j e (inr f) =
-    ap (λ (b : Bool). not (eqb e 0) && (b || not (goes_to L e j))) (within_test f.is_flow)
-    ∙ ap (λ (b : Bool). not (eqb e 0) && not b) f.its_output
-    ∙ and-false (not (eqb e 0))
+right_entry L j e x = grind (arith, nat_tests)
 
 -- a table with a place has a slot
 some_slot : (p N M : ℕ) → p < N * M → 0 < M
-some_slot p N zero u = absurd (omega (arith, mul-zero N))
-some_slot p N (suc M) u = omega arith
+some_slot p N M u = grind (arith, mul-zero N)
 
 module _ (M N : ℕ) (L T : List ℕ) where
   rows_right : Nowhere 0 (N * M) (not_of_row M L T) → (r s : ℕ) → r < N → s < M → (entry M T r s ≡ 0) ⊎ FlowOf L (suc r) (entry M T r s)
@@ -55,10 +46,7 @@ module _ (M N : ℕ) (L T : List ℕ) where
       (h (p / M) (p % M) ((div-lt_iff_lt-mul (some_slot p N M u)).1 u) (mod-lt p (some_slot p N M u))))
 
   shares : (s a b : ℕ) → (entry M T a s ≡ 0 → ⊥) → (entry M T b s ≡ 0 → ⊥) → input_of L (entry M T a s) ≡ input_of L (entry M T b s) → share_input M L T s a b ≡ true
-  shares s a b da db e =
-      ap (λ (x : Bool). not x && (not (eqb (entry M T b s) 0) && eqb (input_of L (entry M T a s)) (input_of L (entry M T b s)))) (ne_eqb _ _ da)
-      ∙ ap (λ (x : Bool). not x && eqb (input_of L (entry M T a s)) (input_of L (entry M T b s))) (ne_eqb _ _ db)
-      ∙ eq-eqb _ _ e
+  shares s a b da db e = grind (arith, nat_tests)
 
   once_below : Nowhere 0 M (input_twice M N L T) → (s a b : ℕ) → s < M → b < N → a < b → (entry M T a s ≡ 0 → ⊥) → (entry M T b s ≡ 0 → ⊥)
       → input_of L (entry M T a s) ≡ input_of L (entry M T b s) → ⊥
@@ -68,18 +56,11 @@ module _ (M N : ℕ) (L T : List ℕ) where
 
   inputs_right : Nowhere 0 M (input_twice M N L T) → (s a b : ℕ) → s < M → a < N → b < N → (a ≡ b → ⊥) → (entry M T a s ≡ 0 → ⊥) → (entry M T b s ≡ 0 → ⊥)
       → input_of L (entry M T a s) ≡ input_of L (entry M T b s) → ⊥
-  inputs_right h s a b ls la lb d da db e = go (dec_lt a b)
-    where
-      go : Dec (a < b) → ⊥
-      go (yes l) = once_below h s a b ls lb l da db e
-      go (no n) = once_below h s b a ls la (omega arith) db da (sym e)
+  inputs_right h s a b ls la lb d da db e = grind (arith, once_below h s a b ls lb, once_below h s b a ls la)
 
   shared : (s a b : ℕ) → share_input M L T s a b ≡ true
       → (entry M T a s ≡ 0 → ⊥) × (entry M T b s ≡ 0 → ⊥) × (input_of L (entry M T a s) ≡ input_of L (entry M T b s))
-  shared s a b e =
-      let x = both_true (not (eqb (entry M T a s) 0)) (not (eqb (entry M T b s) 0) && eqb (input_of L (entry M T a s)) (input_of L (entry M T b s))) e in
-      let y = both_true (not (eqb (entry M T b s) 0)) (eqb (input_of L (entry M T a s)) (input_of L (entry M T b s))) x.1 in
-      (eqb-false _ _ (not-true _ x.0), eqb-false _ _ (not-true _ y.0), eqb-true _ _ y.1)
+  shared s a b e = grind (arith, nat_tests)
 
   -- refusal 9's test at a slot says that two rows hold flows of one input there
   pub twice_says : (s : ℕ) → input_twice M N L T s ≡ true → InputTwice M N L T s
@@ -103,44 +84,37 @@ module _ (M N : ℕ) (L T : List ℕ) where
       }
 
   pub twice_means : (s : ℕ) → s < M → InputTwice M N L T s → input_twice M N L T s ≡ true
-  twice_means s ls t = go (dec_lt t.one_row t.other_row)
+  twice_means s ls t =
+      grind (
+        arith,
+        found t.one_row t.other_row,
+        found t.other_row t.one_row,
+        shares s t.one_row t.other_row t.one_filled t.other_filled,
+        shares s t.other_row t.one_row t.other_filled t.one_filled,
+        t.apart,
+      )
     where
       found : (a b : ℕ) → a < b → b < N → share_input M L T s a b ≡ true → input_twice M N L T s ≡ true
       found a b l lb e =
           somewhere_test 0 N (λ y. holds_somewhere 0 y (λ x. share_input M L T s x y)) b (omega arith) (omega arith)
           (somewhere_test 0 b (λ x. share_input M L T s x b) a (omega arith) (omega arith) e)
 
-      go : Dec (t.one_row < t.other_row) → input_twice M N L T s ≡ true
-      go (yes l) = found t.one_row t.other_row l t.other_there (shares s _ _ t.one_filled t.other_filled t.one_input)
-      go (no n) =
-          found t.other_row t.one_row (omega (arith, t.apart)) t.one_there (shares s _ _ t.other_filled t.one_filled (sym t.one_input))
-
   right_inputs : ((s a b : ℕ) → s < M → a < N → b < N → (a ≡ b → ⊥) → (entry M T a s ≡ 0 → ⊥) → (entry M T b s ≡ 0 → ⊥)
       → input_of L (entry M T a s) ≡ input_of L (entry M T b s) → ⊥) → Nowhere 0 M (input_twice M N L T)
-  right_inputs h s a u = go (input_twice M N L T s) refl
-    where
-      go : (b : Bool) → input_twice M N L T s ≡ b → b ≡ false
-      go true e =
-          let t = twice_says s e in
-          absurd (h s t.one_row t.other_row u t.one_there t.other_there t.apart t.one_filled t.other_filled t.one_input)
-      go false e = refl
+  right_inputs h s a u = grind (arith, twice_says s, h s)
 
   -- refusal 8's test at a place says that the entry is neither 0 nor a flow of its row
   pub not_of_row_says : (p : ℕ) → not_of_row M L T p ≡ true → NotOfRow M L T p
-  not_of_row_says p e x = true≢false (sym e ∙ right_entry L (suc (p / M)) (get_or T p 0) x)
+  not_of_row_says p e x = grind (arith, right_entry L (suc (p / M)) (get_or T p 0) x)
 
   pub not_of_row_means : (p : ℕ) → NotOfRow M L T p → not_of_row M L T p ≡ true
-  not_of_row_means p h = go (not_of_row M L T p) refl
-    where
-      go : (b : Bool) → not_of_row M L T p ≡ b → b ≡ true
-      go true e = refl
-      go false e = absurd (h (entry_right L (suc (p / M)) (get_or T p 0) e))
+  not_of_row_means p h = grind (arith, nat_tests, h, entry_right L (suc (p / M)) (get_or T p 0))
 
   pub count_wrong_says : (k : ℕ) → count_wrong M N L T k ≡ true → CountWrong M N L T k
-  count_wrong_says k e = eqb-false _ _ (not-true _ e)
+  count_wrong_says k e = grind (arith, nat_tests)
 
   pub count_wrong_means : (k : ℕ) → CountWrong M N L T k → count_wrong M N L T k ≡ true
-  count_wrong_means k d = ap not (ne_eqb _ _ d)
+  count_wrong_means k d = grind (arith, nat_tests)
 
   -- none of refusals 8, 9 and 10 is due exactly if the table is accepted
   pub nothing_due : Accepted M N L T → NoneHolds (entry_rules M N L T)
@@ -150,7 +124,7 @@ module _ (M N : ℕ) (L T : List ℕ) where
       nowhere_test 0 M (input_twice M N L T) (λ k l u. right_inputs acc.input_once k l (omega arith)),
       (
         nowhere_test 1 (flow_count L) (count_wrong M N L T)
-            (λ k l u. ap not (eq-eqb _ _ (acc.exact_counts k (record { at_least = l; at_most = omega arith })))),
+            (λ k l u. grind (arith, nat_tests, acc.exact_counts k (record { at_least = l; at_most = omega arith }))),
         tt,
       ),
     ),
@@ -161,5 +135,5 @@ module _ (M N : ℕ) (L T : List ℕ) where
       record {
         of_its_row = rows_right (λ k l u. somewhere_false 0 (N * M) (not_of_row M L T) h.0 k l (omega arith));
         input_once = inputs_right (λ k l u. somewhere_false 0 M (input_twice M N L T) h.1.0 k l (omega arith));
-        exact_counts = λ k w. eqb-true _ _ (not-false _ (somewhere_false 1 (flow_count L) (count_wrong M N L T) h.1.1.0 k w.at_least (omega (arith, w.at_most))));
+        exact_counts = λ k w. grind (arith, nat_tests, somewhere_false 1 (flow_count L) (count_wrong M N L T) h.1.1.0 k w.at_least);
       }

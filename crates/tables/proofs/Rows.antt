@@ -1,11 +1,11 @@
 -- A row as a part of the table: where no refusal is due it lies within the table, and the part is cut there.
 use Prim.Native.Nat.{ℕ, suc, ◌+◌, ◌-◌, ◌*◌, ◌≤◌, ◌<◌}
-use mathlib.Core.Path.{◌≡◌, sym, ◌∙◌, ap}
+use mathlib.Core.Path.{◌≡◌, refl, sym, ◌∙◌, ap}
 use mathlib.Core.Bool.{Bool, cond, true, false}
 use mathlib.Core.List.{List, []}
 use native.Mathlib.Omega.{arith}
 use native.Mathlib.Nat.{mul-le-mul_right, suc-mul}
-use borrow.Author.Tests.{eq-eqb, ne_eqb, ltb-false}
+use borrow.Author.Tests.{eq-eqb, eqb-true, ltb-false}
 use lib.ListN.{length, get_or, take, drop, length-take, length-drop, get_or-eq_default}
 use lib.Seq.{get_or-take, get_or-drop}
 use native.Mathlib.Decide.{dec_lt}
@@ -16,51 +16,33 @@ use Rattle.answers.specs.Limits.{max_frame, Within}
 use Rattle.answers.specs.Answers.{done_with}
 use Rattle.answers.proofs.Ranges.{inside}
 use Rattle.answers.proofs.First.{none_of_them}
-use Rattle.tables.specs.Row.{row_rules, row_answer, row_there, row_start, row_part}
+use Rattle.tables.specs.Row.{row_rules, row_answer, row_there, row_part}
 
-module _ (M N : ℕ) (T : List ℕ) (j : ℕ) (a : Answer) (e : a ≡ row_answer M N (length T) j) where
-  pub refused_there : (a.number ≡ DONE → ⊥) → row_there M N (length T) j ≡ false
-  refused_there h = ne_eqb _ _ (λ x. h (ap (λ (y : Answer). y.number) e ∙ x))
+-- where no refusal is due, a row is not empty and ends within the table. The equation says nothing: it shows `grind` the call to match
+pub row_within : (M N size j : ℕ) → row_there M N size j ≡ true → (row_answer M N size j ≡ row_answer M N size j) × (1 ≤ M) × (1 ≤ j) × ((j - 1) * M + M ≤ size)
+unfolding row_answer
+row_within M N size j e =
+    let none = none_of_them (row_rules M N size j) [] (done_with (pos 0)) _ refl tt (eqb-true _ _ e) in
+    let slots : Within 1 max_frame M = inside none.0 in
+    let output : Within 1 N j = inside none.1.1.1.0 in (
+      refl,
+      slots.at_least,
+      output.at_least,
+      omega (arith, suc-mul (j - 1) M, mul-le-mul_right {m = suc (j - 1)} {n = N} M (omega arith), ltb-false size (N * M) none.1.1.0),
+    )
 
-  pub no_part : (a.number ≡ DONE → ⊥) → [] ≡ row_part M N T j
-  no_part h = sym (ap (λ (b : Bool). cond b (take M (drop ((j - 1) * M) T)) []) (refused_there h))
-
-  pub no_start : (a.number ≡ DONE → ⊥) → 0 ≡ row_start M N (length T) j
-  no_start h = sym (ap (λ (b : Bool). cond b ((j - 1) * M) 0) (refused_there h))
-
-  module _ (d : a.number ≡ DONE) where
-    pub row_there_lem : row_there M N (length T) j ≡ true
-    row_there_lem = eq-eqb _ _ (sym (ap (λ (y : Answer). y.number) e) ∙ d)
-
-    pub output_within : Within 1 N j
-    unfolding row_answer
-    output_within = inside (none_of_them (row_rules M N (length T) j) [] (done_with (pos 0)) a e tt d).1.1.1.0
-
-    pub some_slots : 1 ≤ M
-    unfolding row_answer
-    some_slots = (inside {low = 1} {high = max_frame} {x = M} (none_of_them (row_rules M N (length T) j) [] (done_with (pos 0)) a e tt d).0).at_least
-
-    pub row_ends : (j - 1) * M + M ≤ length T
-    unfolding row_answer
-    row_ends =
-        let h = none_of_them (row_rules M N (length T) j) [] (done_with (pos 0)) a e tt d in
-        let w = output_within in
-        omega (arith, suc-mul (j - 1) M, mul-le-mul_right {m = suc (j - 1)} {n = N} M (omega arith), ltb-false (length T) (N * M) h.1.1.0)
-
-    pub part_cut : take ((j - 1) * M + M - (j - 1) * M) (drop ((j - 1) * M) T) ≡ row_part M N T j
-    part_cut =
-        let long : (j - 1) * M + M - (j - 1) * M ≡ M = omega arith in
-        ap (λ (x : ℕ). take x (drop ((j - 1) * M) T)) long
-        ∙ sym (ap (λ (b : Bool). cond b (take M (drop ((j - 1) * M) T)) []) row_there_lem)
-
-    pub part_start : (j - 1) * M ≡ row_start M N (length T) j
-    part_start = sym (ap (λ (b : Bool). cond b ((j - 1) * M) 0) row_there_lem)
-
-    -- no row is empty
-    pub some_bytes : row_part M N T j ≡ [] → ⊥
-    some_bytes x =
-        let cut = ap (λ (b : Bool). cond b (take M (drop ((j - 1) * M) T)) []) row_there_lem in
-        omega (arith, ap length (sym cut ∙ x), length-take M (drop ((j - 1) * M) T), length-drop ((j - 1) * M) T, row_ends, some_slots)
+-- no row is empty
+pub some_bytes : (M N : ℕ) (T : List ℕ) (j : ℕ) (a : Answer) → a ≡ row_answer M N (length T) j → a.number ≡ DONE → row_part M N T j ≡ [] → ⊥
+some_bytes M N T j a e d x =
+    let there : row_there M N (length T) j ≡ true = eq-eqb _ _ (sym (ap (λ (y : Answer). y.number) e) ∙ d) in
+    let cut = ap (λ (b : Bool). cond b (take M (drop ((j - 1) * M) T)) []) there in
+    omega (
+      arith,
+      ap length (sym cut ∙ x),
+      length-take M (drop ((j - 1) * M) T),
+      length-drop ((j - 1) * M) T,
+      row_within M N (length T) j there,
+    )
 
 -- a row's part is no longer than the frame, and its entries are entries of the table
 pub part_short : (M N : ℕ) (T : List ℕ) (j : ℕ) → length (row_part M N T j) ≤ M

@@ -1,195 +1,144 @@
-// The check: a table is accepted for a list exactly where this answers done.
+// The check: a table is accepted for a plan exactly where this gives no refusal.
 ghost use Rattle.std.specs.Prelude.{◌≡◌, ◌+◌, ◌*◌, ◌<◌, ◌≤◌, length};
-ghost use Rattle.answers.specs.Limits.{max_ports, max_frame, max_flows};
-ghost use Rattle.answers.specs.Lowest.{lowest, holds_somewhere};
+ghost use Rattle.answers.specs.Answers.{plain_answer};
+ghost use Rattle.answers.specs.Limits.{max_flows};
+ghost use Rattle.answers.specs.Lowest.{found, holds_somewhere};
 ghost use Rattle.flows.specs.Flows.{flow_count};
 ghost use Rattle.tables.specs.Accepted.{entry};
 ghost use Rattle.tables.specs.Check.{no_flow_of, not_of_row, share_input, input_twice, count_wrong, check_answer, entries_answer, Holds, Counted};
 
-use answers::{Answer, COUNT_WRONG, DONE, ENTRY_NOT_OF_ROW, INPUT_TWICE_IN_SLOT, TABLE_TOO_SHORT};
-
-fn wide(x: u8) -> usize
-    ensures { result ≡ x }
-{
-    x as usize
-}
+use answers::{Refusal, first_where, outside};
+use flows::Plan;
 
 // What stands in a row at a slot.
 pub fn entry_at(frame: usize, table: &[u8], row: usize, slot: usize) -> usize
     requires { row * frame + slot < length table.now }
     ensures { result ≡ entry frame table.now row slot }
 {
-    wide(table[row * frame + slot])
+    usize::from(table[row * frame + slot])
 }
 
-// Whether an entry is not the number of a flow for that output.
-fn no_flow_of(list: &[u16], output: usize, number: usize) -> bool
-    ensures { result ≡ no_flow_of list.now output number }
-{
-    if answers::outside(1, flows::flow_count(list), number) {
-        return true;
+// A plan and a table with a row for each of its ports, where frame and ports are in range and there are not too many flows.
+#[derive(Clone, Copy)]
+struct Whole<'a> {
+    plan: Plan<'a>,
+    table: &'a [u8],
+    ghost holds: { Holds plan.frame plan.ports table.now },
+    ghost few_flows: { flow_count plan.list.now ≤ max_flows },
+}
+
+impl Whole<'_> {
+    // Whether a number is not that of a flow for that output.
+    fn no_flow_of(&self, output: usize, number: usize) -> bool
+        ensures { result ≡ no_flow_of self.now.plan.list.now output number }
+    {
+        outside(1, self.plan.flow_count(), number) || !self.plan.goes_to(number, output)
     }
-    !flows::goes_to(list, number, output)
-}
 
-// Refusal 8 at one place.
-fn not_of_row(frame: usize, list: &[u16], table: &[u8], place: usize) -> bool
-    requires { (0 < frame) × (place < length table.now) }
-    ensures { result ≡ not_of_row frame list.now table.now place }
-{
-    let number = wide(table[place]);
-    if number == 0 {
-        return false;
+    // How many places the rows of all ports take.
+    fn places(&self) -> usize
+        ensures { result ≡ self.now.plan.ports * self.now.plan.frame }
+    {
+        self.plan.ports * self.plan.frame
     }
-    no_flow_of(list, place / frame + 1, number)
-}
 
-// The lowest place that refusal 8 names, or the end.
-fn first_not_of_row(frame: usize, list: &[u16], table: &[u8], end: usize) -> usize
-    requires { (0 < frame) × (end ≤ length table.now) }
-    ensures { result ≡ lowest 0 end (not_of_row frame list.now table.now) }
-{
-    let mut place = 0;
-    while place < end {
-        if not_of_row(frame, list, table, place) {
-            return place;
+    // Refusal 8 at one place.
+    fn not_of_row(&self, place: usize) -> bool
+        requires { place < length self.now.table.now }
+        ensures { result ≡ not_of_row self.now.plan.frame self.now.plan.list.now self.now.table.now place }
+    {
+        let number = usize::from(self.table[place]);
+        number != 0 && self.no_flow_of(place / self.plan.frame + 1, number)
+    }
+
+    // The lowest place that refusal 8 names.
+    fn first_not_of_row(&self) -> Option<usize>
+        ensures { result ≡ found 0 (self.now.plan.ports * self.now.plan.frame) (not_of_row self.now.plan.frame self.now.plan.list.now self.now.table.now) }
+    {
+        first_where(0..self.places(), |place| self.not_of_row(place))
+    }
+
+    // Whether two rows hold flows of one input at a slot.
+    fn share_input(&self, slot: usize, a: usize, b: usize) -> bool
+        requires { (slot < self.now.plan.frame) × (a < self.now.plan.ports) × (b < self.now.plan.ports) }
+        ensures { result ≡ share_input self.now.plan.frame self.now.plan.list.now self.now.table.now slot a b }
+    {
+        let first = entry_at(self.plan.frame, self.table, a, slot);
+        let second = entry_at(self.plan.frame, self.table, b, slot);
+        first != 0 && second != 0 && self.plan.input_of(first) == self.plan.input_of(second)
+    }
+
+    // Whether some earlier row holds a flow of the same input as this row at a slot.
+    fn meets_earlier(&self, slot: usize, row: usize) -> bool
+        requires { (slot < self.now.plan.frame) × (row < self.now.plan.ports) }
+        ensures { result ≡ holds_somewhere 0 row (λ a. share_input self.now.plan.frame self.now.plan.list.now self.now.table.now slot a row) }
+    {
+        first_where(0..row, |earlier| self.share_input(slot, earlier, row)).is_some()
+    }
+
+    // Refusal 9 at one slot.
+    fn input_twice(&self, slot: usize) -> bool
+        requires { slot < self.now.plan.frame }
+        ensures { result ≡ input_twice self.now.plan.frame self.now.plan.ports self.now.plan.list.now self.now.table.now slot }
+    {
+        first_where(0..self.plan.ports, |row| self.meets_earlier(slot, row)).is_some()
+    }
+
+    // The lowest slot that refusal 9 names.
+    fn first_input_twice(&self) -> Option<usize>
+        ensures { result ≡ found 0 self.now.plan.frame (input_twice self.now.plan.frame self.now.plan.ports self.now.plan.list.now self.now.table.now) }
+    {
+        first_where(0..self.plan.frame, |slot| self.input_twice(slot))
+    }
+
+    // How many times each number stands in the table, in one pass.
+    fn count_entries(&self) -> [u32; 256]
+        ensures { Counted self.now.table.now (self.now.plan.ports * self.now.plan.frame) result }
+    {
+        let mut counts = [0; 256];
+        for &entry in &self.table[..self.places()] {
+            counts[usize::from(entry)] += 1;
         }
-        place += 1;
+        counts
     }
-    place
-}
 
-// Whether two rows hold flows of one input at a slot.
-fn share_input(frame: usize, list: &[u16], table: &[u8], slot: usize, a: usize, b: usize) -> bool
-    requires { (a * frame + slot < length table.now) × (b * frame + slot < length table.now) }
-    ensures { result ≡ share_input frame list.now table.now slot a b }
-{
-    let first = entry_at(frame, table, a, slot);
-    if first == 0 {
-        return false;
+    // The lowest flow that refusal 10 names.
+    #[tactic(auto, using(crate::proofs::Counts::count_is_times))]
+    fn first_count_wrong(&self) -> Option<usize>
+        ensures { result ≡ found 1 (flow_count self.now.plan.list.now) (count_wrong self.now.plan.frame self.now.plan.ports self.now.plan.list.now self.now.table.now) }
+    {
+        let counts = self.count_entries();
+        first_where(1..self.plan.flow_count() + 1, |flow| {
+            counts[flow] as usize != self.plan.cells_of(flow)
+        })
     }
-    let second = entry_at(frame, table, b, slot);
-    if second == 0 {
-        return false;
-    }
-    flows::input_of(list, first) == flows::input_of(list, second)
-}
 
-// Whether some earlier row holds a flow of the same input as this row at a slot.
-fn meets_earlier(
-    frame: usize,
-    ports: usize,
-    list: &[u16],
-    table: &[u8],
-    slot: usize,
-    row: usize,
-) -> bool
-    requires { Holds frame ports table.now × (slot < frame) × (row < ports) }
-    ensures { result ≡ holds_somewhere 0 row (λ a. share_input frame list.now table.now slot a row) }
-{
-    let mut earlier = 0;
-    while earlier < row {
-        if share_input(frame, list, table, slot, earlier, row) {
-            return true;
+    // Refusals 8, 9 and 10.
+    #[tactic(auto, unfolding(crate::specs::Check::entries_answer))]
+    fn judge(&self) -> Result<(), Refusal>
+        ensures { plain_answer result ≡ entries_answer self.now.plan.frame self.now.plan.ports self.now.plan.list.now self.now.table.now }
+    {
+        if let Some(place) = self.first_not_of_row() {
+            return Err(Refusal::EntryNotOfRow(place as u16));
         }
-        earlier += 1;
-    }
-    false
-}
-
-// Refusal 9 at one slot.
-fn input_twice(frame: usize, ports: usize, list: &[u16], table: &[u8], slot: usize) -> bool
-    requires { Holds frame ports table.now × (slot < frame) }
-    ensures { result ≡ input_twice frame ports list.now table.now slot }
-{
-    let mut row = 0;
-    while row < ports {
-        if meets_earlier(frame, ports, list, table, slot, row) {
-            return true;
+        if let Some(slot) = self.first_input_twice() {
+            return Err(Refusal::InputTwiceInSlot(slot as u16));
         }
-        row += 1;
-    }
-    false
-}
-
-// The lowest slot that refusal 9 names, or the frame.
-fn first_input_twice(frame: usize, ports: usize, list: &[u16], table: &[u8]) -> usize
-    requires { Holds frame ports table.now }
-    ensures { result ≡ lowest 0 frame (input_twice frame ports list.now table.now) }
-{
-    let mut slot = 0;
-    while slot < frame {
-        if input_twice(frame, ports, list, table, slot) {
-            return slot;
+        if let Some(flow) = self.first_count_wrong() {
+            return Err(Refusal::CountWrong(flow as u16));
         }
-        slot += 1;
+        Ok(())
     }
-    slot
 }
 
-// How many times each number stands among the first places of a table, in one pass.
-fn count_entries(table: &[u8], end: usize) -> [u32; 256]
-    requires { (end ≤ length table.now) × (end ≤ max_ports * max_frame) }
-    ensures { Counted table.now end result }
+// Whether a table is accepted for a plan, and if not, why.
+#[tactic(auto, unfolding(flows::specs::Flows::list_answer, crate::specs::Check::entries_answer, crate::specs::Check::check_answer), using(flows::proofs::Shape::in_range))]
+pub fn check(plan: &Plan, table: &[u8]) -> Result<(), Refusal>
+    ensures { plain_answer result ≡ check_answer plan.now.frame plan.now.ports plan.now.list.now table.now }
 {
-    let mut counts = [0u32; 256];
-    let mut place = 0;
-    while place < end {
-        let number = wide(table[place]);
-        counts[number] = counts[number] + 1;
-        place += 1;
+    plan.judge()?;
+    if table.len() < plan.ports * plan.frame {
+        return Err(Refusal::TableTooShort);
     }
-    counts
-}
-
-// The lowest flow that refusal 10 names, or one past the last flow.
-fn first_count_wrong(frame: usize, ports: usize, list: &[u16], table: &[u8]) -> usize
-    requires { Holds frame ports table.now × (flow_count list.now ≤ max_flows) }
-    ensures { result ≡ lowest 1 (flow_count list.now) (count_wrong frame ports list.now table.now) }
-{
-    let counts = count_entries(table, ports * frame);
-    let last = flows::flow_count(list);
-    let mut flow = 1;
-    while flow <= last {
-        let found = counts[flow] as usize;
-        if found != flows::cells_of(list, flow) {
-            return flow;
-        }
-        flow += 1;
-    }
-    flow
-}
-
-// Refusals 8, 9 and 10 of a table that is long enough, or done.
-fn entries_answer(frame: usize, ports: usize, list: &[u16], table: &[u8]) -> Answer
-    requires { Holds frame ports table.now × (flow_count list.now ≤ max_flows) }
-    ensures { result ≡ entries_answer frame ports list.now table.now }
-{
-    let place = first_not_of_row(frame, list, table, ports * frame);
-    if place < ports * frame {
-        return answers::naming(ENTRY_NOT_OF_ROW, place);
-    }
-    let slot = first_input_twice(frame, ports, list, table);
-    if slot < frame {
-        return answers::naming(INPUT_TWICE_IN_SLOT, slot);
-    }
-    let flow = first_count_wrong(frame, ports, list, table);
-    if flow <= flows::flow_count(list) {
-        return answers::naming(COUNT_WRONG, flow);
-    }
-    answers::refusal(DONE)
-}
-
-// Whether a table is accepted for a list, and if not, why.
-pub fn check(frame: usize, ports: usize, list: &[u16], table: &[u8]) -> Answer
-    ensures { result ≡ check_answer frame ports list.now table.now }
-{
-    let listed = flows::list_answer(frame, ports, list);
-    if listed.number != DONE {
-        return listed;
-    }
-    if table.len() < ports * frame {
-        return answers::refusal(TABLE_TOO_SHORT);
-    }
-    entries_answer(frame, ports, list, table)
+    Whole { plan: *plan, table }.judge()
 }
