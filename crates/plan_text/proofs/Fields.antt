@@ -1,13 +1,15 @@
 -- A text of the form, field by field: a key, a number's digits and the byte that ends it. The reading lives through each.
 use Prim.Native.Nat.{ℕ, ◌+◌, ◌-◌, ◌*◌, ◌/◌, ◌%◌, ◌≤◌, ◌<◌}
 use mathlib.Core.Path.{◌≡◌, refl, sym, ◌∙◌, ap, subst}
-use mathlib.Core.Bool.{Bool, true, false, not, true≢false}
+use mathlib.Core.Bool.{true, false, not, true≢false}
 use mathlib.Core.List.{List, [], ◌∷◌, ◌++◌, append_assoc}
 use native.Mathlib.Omega.{arith}
 use borrow.Author.Tests.{eq-eqb, le-ltb}
 use lib.ListN.{length}
 use lib.Dec.{ltb}
 use lib.Seq.{append_snoc}
+use Rattle.std.proofs.Common.{Option, Some, None}
+use Rattle.std.specs.Option.{unwrap_or}
 use Rattle.answers.proofs.Ranges.{within_test}
 use Rattle.flows.specs.Flows.{per_flow, flow_count}
 use Rattle.plan_text.specs.declared.reader.Field.{Field}
@@ -78,9 +80,9 @@ after_threes (i ∷ []) e = absurd (true≢false (sym e))
 after_threes (i ∷ j ∷ []) e = absurd (true≢false (sym e))
 after_threes (i ∷ j ∷ c ∷ L) e = omega (arith, after_threes L e)
 
--- behind the key, with the number begun or not
-abbrev pub behind_key : Field → Bool → ℕ → Reader
-behind_key f begun v = record { field = f; matched = length (key_of f); started = begun; value = v }
+-- behind the key, with the number so far
+abbrev pub behind_key : Field → Option ℕ → Reader
+behind_key f n = record { field = f; matched = length (key_of f); number = n }
 
 key_past : (f : Field) → ltb (length (key_of f)) (length (key_of f)) ≡ false
 key_past f = le-ltb (length (key_of f)) (length (key_of f)) (omega arith)
@@ -97,26 +99,26 @@ end_test Output = refl
 end_test Cells = refl
 
 -- one more digit
-digit_runs : (f : Field) (begun : Bool) (v d n : ℕ) → d < 10 → may_grow (behind_key f begun v) ≡ true → v * 10 + d ≡ n
-    → Runs (behind_key f begun v) ((zero_byte + d) ∷ []) (behind_key f true n) []
+digit_runs : (f : Field) (v : Option ℕ) (d n : ℕ) → d < 10 → may_grow (behind_key f v) ≡ true → unwrap_or v 0 * 10 + d ≡ n
+    → Runs (behind_key f v) ((zero_byte + d) ∷ []) (behind_key f (Some n)) []
 unfolding takes ends_number
-digit_runs f begun v d n l g e =
-    runs_byte {q = behind_key f true (v * 10 + (zero_byte + d - zero_byte))} (rw (key_past f, digit_test d l) g) (rw (key_past f, digit_test d l))
-    (past_digit_lem (behind_key f begun v) (zero_byte + d) (key_past f) (digit_test d l))
-    (subst (λ (x : ℕ). Runs (behind_key f true x) [] (behind_key f true n) []) (omega arith) (runs_nothing (behind_key f true n)))
+digit_runs f v d n l g e =
+    runs_byte {q = behind_key f (Some (unwrap_or v 0 * 10 + (zero_byte + d - zero_byte)))} (rw (key_past f, digit_test d l) g) (rw (key_past f, digit_test d l))
+    (past_digit_lem (behind_key f v) (zero_byte + d) (key_past f) (digit_test d l))
+    (subst (λ (x : ℕ). Runs (behind_key f (Some x)) [] (behind_key f (Some n)) []) (omega arith) (runs_nothing (behind_key f (Some n))))
 
-digits_run : (f : Field) (n : ℕ) → n ≤ max_number → Runs (behind_key f false 0) (digits n) (behind_key f true n) []
+digits_run : (f : Field) (n : ℕ) → n ≤ max_number → Runs (behind_key f None) (digits n) (behind_key f (Some n)) []
 digits_run f n l =
-    digits_by (λ n l. n ≤ max_number → Runs (behind_key f false 0) l (behind_key f true n) []) (λ n s b. digit_runs f false 0 n n s refl (omega arith))
+    digits_by (λ n l. n ≤ max_number → Runs (behind_key f None) l (behind_key f (Some n)) []) (λ n s b. digit_runs f None n n s refl (omega arith))
     more n (omega arith) l
   where
-    more : (n : ℕ) (l : List ℕ) → 10 ≤ n → (n / 10 ≤ max_number → Runs (behind_key f false 0) l (behind_key f true (n / 10)) [])
-        → n ≤ max_number → Runs (behind_key f false 0) (l ++ (zero_byte + n % 10) ∷ []) (behind_key f true n) []
+    more : (n : ℕ) (l : List ℕ) → 10 ≤ n → (n / 10 ≤ max_number → Runs (behind_key f None) l (behind_key f (Some (n / 10))) [])
+        → n ≤ max_number → Runs (behind_key f None) (l ++ (zero_byte + n % 10) ∷ []) (behind_key f (Some n)) []
     more n l a rest b =
         runs_then (rest (omega arith))
-        (digit_runs f true (n / 10) (n % 10) n (omega arith) (ap not (within_test {low = 1} {high = max_number / 10} {x = n / 10} (record { at_least = omega arith; at_most = omega arith }))) (omega arith))
+        (digit_runs f (Some (n / 10)) (n % 10) n (omega arith) (ap not (within_test {low = 1} {high = max_number / 10} {x = n / 10} (record { at_least = omega arith; at_most = omega arith }))) (omega arith))
 
-key_runs : (f : Field) → Runs (before_field f) (key_of f) (behind_key f false 0) []
+key_runs : (f : Field) → Runs (before_field f) (key_of f) (behind_key f None) []
 unfolding lived past_all numbers_in takes past ends_number
 key_runs Frame = record { alive = refl; stands = refl; ended = refl }
 key_runs Ports = record { alive = refl; stands = refl; ended = refl }
@@ -124,11 +126,11 @@ key_runs Input = record { alive = refl; stands = refl; ended = refl }
 key_runs Output = record { alive = refl; stands = refl; ended = refl }
 key_runs Cells = record { alive = refl; stands = refl; ended = refl }
 
-end_runs : (f : Field) (n : ℕ) → Runs (behind_key f true n) (end_of f ∷ []) (before_field (next_field f)) (n ∷ [])
+end_runs : (f : Field) (n : ℕ) → Runs (behind_key f (Some n)) (end_of f ∷ []) (before_field (next_field f)) (n ∷ [])
 unfolding takes ends_number
 end_runs f n =
-    runs_end {r = behind_key f true n} (rw (key_past f, end_test f) (eq-eqb (end_of f) (end_of f) refl)) (rw (key_past f, end_test f))
-    (past_end (behind_key f true n) (end_of f) (key_past f) (end_test f)) (runs_nothing (before_field (next_field f)))
+    runs_end {r = behind_key f (Some n)} (rw (key_past f, end_test f) (eq-eqb (end_of f) (end_of f) refl)) (rw (key_past f, end_test f))
+    (past_end (behind_key f (Some n)) (end_of f) (key_past f) (end_test f)) (runs_nothing (before_field (next_field f)))
 
 -- the reading lives through the fields, and finds their numbers
 pub fields_run : (f : Field) (ns : List ℕ) → AllShort ns → Runs (before_field f) (fields_text f ns) (before_field (field_after f ns)) ns

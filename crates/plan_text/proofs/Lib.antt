@@ -1,5 +1,3 @@
-pub mod Bytes
-pub mod Copying
 pub mod Standing
 pub mod Scanning
 pub mod TakingOver

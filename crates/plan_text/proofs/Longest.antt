@@ -12,7 +12,7 @@ use Rattle.plan_text.specs.declared.reader.Field.TheVariants.{Frame, Ports, Inpu
 use Rattle.plan_text.specs.declared.reader.Reader.{Reader}
 use Rattle.plan_text.specs.Digits.{digits}
 use Rattle.plan_text.specs.Form.{AllShort, OfForm, Begins, LongestBeginning}
-use Rattle.plan_text.specs.Reading.{key_of, end_of, next_field, in_key, is_input, start, lived, past_all, numbers_in}
+use Rattle.plan_text.specs.Reading.{key_of, end_of, next_field, in_key, is_input, start, lived, past_all, numbers_in, started, value_of}
 use Rattle.plan_text.proofs.Standing.{Standing, stands_start}
 use Rattle.plan_text.proofs.Running.{lived-take, lived_most}
 use Rattle.plan_text.proofs.Fields.{field_text, fields_text, field_after}
@@ -20,27 +20,27 @@ use Rattle.plan_text.proofs.SoFar.{begun, SoFar, so_far}
 use Rattle.plan_text.proofs.Recognised.{fields_form, form_runs}
 
 -- the bytes that complete a field which has begun, its number as it stands
-rest_of : (r : Reader) → Standing r → (rest : List ℕ) × (begun r ++ rest ≡ field_text r.field r.value)
-rest_of r s = go r.started refl
+rest_of : (r : Reader) → Standing r → (rest : List ℕ) × (begun r ++ rest ≡ field_text r.field (value_of r))
+rest_of r s = go (started r) refl
   where
     key : List ℕ
     key = key_of r.field
 
-    past_key : r.started ≡ true → (k : Bool) → in_key r ≡ k → length key ≤ r.matched
+    past_key : started r ≡ true → (k : Bool) → in_key r ≡ k → length key ≤ r.matched
     past_key t true e = absurd (true≢false (sym t ∙ s.key_first e))
     past_key t false e = ltb-false _ _ e
 
-    go : (t : Bool) → r.started ≡ t → (rest : List ℕ) × (take r.matched key ++ cond t (digits r.value) [] ++ rest ≡ key ++ (digits r.value ++ end_of r.field ∷ []))
+    go : (t : Bool) → started r ≡ t → (rest : List ℕ) × (take r.matched key ++ cond t (digits (value_of r)) [] ++ rest ≡ key ++ (digits (value_of r) ++ end_of r.field ∷ []))
     go true t = (
       end_of r.field ∷ [],
-      append_assoc (take r.matched key) (digits r.value) (end_of r.field ∷ [])
-          ∙ ap (λ (l : List ℕ). l ++ (digits r.value ++ end_of r.field ∷ [])) (take_all r.matched key (past_key t (in_key r) refl)),
+      append_assoc (take r.matched key) (digits (value_of r)) (end_of r.field ∷ [])
+          ∙ ap (λ (l : List ℕ). l ++ (digits (value_of r) ++ end_of r.field ∷ [])) (take_all r.matched key (past_key t (in_key r) refl)),
     )
     go false t = (
-      drop r.matched key ++ (digits r.value ++ end_of r.field ∷ []),
-      ap (λ (l : List ℕ). l ++ (drop r.matched key ++ (digits r.value ++ end_of r.field ∷ []))) (append-nil (take r.matched key))
-          ∙ sym (append_assoc (take r.matched key) (drop r.matched key) (digits r.value ++ end_of r.field ∷ []))
-          ∙ ap (λ (l : List ℕ). l ++ (digits r.value ++ end_of r.field ∷ [])) (take-append-drop r.matched key),
+      drop r.matched key ++ (digits (value_of r) ++ end_of r.field ∷ []),
+      ap (λ (l : List ℕ). l ++ (drop r.matched key ++ (digits (value_of r) ++ end_of r.field ∷ []))) (append-nil (take r.matched key))
+          ∙ sym (append_assoc (take r.matched key) (drop r.matched key) (digits (value_of r) ++ end_of r.field ∷ []))
+          ∙ ap (λ (l : List ℕ). l ++ (digits (value_of r) ++ end_of r.field ∷ [])) (take-append-drop r.matched key),
     )
 
 -- fields one after the other
@@ -96,7 +96,7 @@ completed t e = (rest.0 ++ fields_text (next_field f) more, subst OfForm (sym wh
     f = r.field
 
     value : ℕ
-    value = r.value
+    value = value_of r
 
     ns : List ℕ
     ns = numbers_in start t

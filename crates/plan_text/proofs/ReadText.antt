@@ -1,103 +1,87 @@
 -- How reading comes to its answer: the text's length first, then its form, then its numbers.
-use Prim.Native.Nat.{ℕ, min, ◌≤◌, ◌<◌}
-use mathlib.Core.Path.{◌≡◌, refl, sym, ◌∙◌, ap}
-use mathlib.Core.Bool.{Bool, true, false, not, cond, ◌&&◌}
-use mathlib.Core.List.{List}
-use native.Mathlib.Omega.{arith}
-use borrow.Author.Tests.{lt-ltb, le-ltb, eq-eqb, ne_eqb}
+use Rattle.std.proofs.Common.{ℕ, min, ◌≤◌, ◌<◌, ◌≡◌, refl, sym, ◌∙◌, ap, Bool, true, false, not, cond, List, length, pos, Ok, Err, arith}
+use borrow.Author.Tests.{lt-ltb, le-ltb}
 use lib.Dec.{ltb}
-use lib.IntN.{pos}
-use lib.ListN.{length, take, length-map}
+use lib.ListN.{length-map}
 use Rattle.answers.specs.declared.Answer.{Answer}
+use Rattle.answers.specs.declared.Refusal.{Refusal}
+use Rattle.answers.specs.declared.Refusal.TheVariants.{TextTooLong, TextNotOfForm}
 use Rattle.answers.specs.Numbers.{TEXT_TOO_LONG, TEXT_NOT_OF_FORM}
 use Rattle.answers.specs.Limits.{max_text}
-use Rattle.answers.specs.Answers.{answer, refusal}
-use Rattle.plan_text.specs.declared.reading.HowFar.{HowFar}
-use Rattle.plan_text.specs.Reading.{start, lived, past_all, numbers_in, may_end, is_of_form, frame_in, ports_in, list_in}
-use Rattle.plan_text.proofs.Running.{lived_most}
+use Rattle.answers.specs.Answers.{answer, refusal, refused}
+use Rattle.plan_text.specs.Reading.{start, lived, numbers_in, is_of_form, frame_in, ports_in, list_in}
+use Rattle.plan_text.specs.Plans.{max_word, in_words, scanned, plan_if_done, over_if_done, take_answer, taken_plan, taken_into, read_answer, read_plan, read_into}
 use Rattle.plan_text.proofs.Recognised.{two_numbers}
-use Rattle.plan_text.specs.Plans.{plan_of, plan_if_done, over_if_done, take_answer, taken_plan, taken_into, read_answer, read_plan, read_into, max_word, in_words, Scanned}
+use Rattle.plan_text.proofs.TakingOver.{refused_plan, refused_stays}
+use Rattle.plan_text.proofs.Words.{numbers_plan, numbers_over}
 
-module _ (text : List ℕ) where
-  -- the answer: over its limit, else not of the form, else as its numbers are taken over
-  formed : ℕ → Answer
-  formed room = cond (not (is_of_form text)) (answer TEXT_NOT_OF_FORM (pos (lived start text))) (take_answer (frame_in text) (ports_in text) (list_in text) room)
+-- what a scan finds, by the text's form
+not_of_form : (text : List ℕ) (r : Refusal) → Err r ≡ scanned text → (is_of_form text ≡ false) × (r ≡ TextNotOfForm (lived start text))
+not_of_form text r e = go (is_of_form text) refl e
+  where
+    go : (b : Bool) → is_of_form text ≡ b → Err r ≡ cond b (Ok (in_words (numbers_in start text))) (Err (TextNotOfForm (lived start text)))
+        → (b ≡ false) × (r ≡ TextNotOfForm (lived start text))
+    go true h x = cc
+    go false h x = (refl, cc)
 
-  read_is : (room : ℕ) → read_answer text room ≡ cond (ltb max_text (length text)) (refusal TEXT_TOO_LONG) (formed room)
+of_form : (text ns : List ℕ) → Ok ns ≡ scanned text → (is_of_form text ≡ true) × (ns ≡ in_words (numbers_in start text))
+of_form text ns e = go (is_of_form text) refl e
+  where
+    go : (b : Bool) → is_of_form text ≡ b → Ok ns ≡ cond b (Ok (in_words (numbers_in start text))) (Err (TextNotOfForm (lived start text)))
+        → (b ≡ true) × (ns ≡ in_words (numbers_in start text))
+    go true h x = (refl, cc)
+    go false h x = cc
+
+module _ (text : List ℕ) (room : ℕ) where
+  formed : Bool → Answer
+  formed f = cond (not f) (answer TEXT_NOT_OF_FORM (pos (lived start text))) (take_answer (frame_in text) (ports_in text) (list_in text) room)
+
+  read_is : read_answer text room ≡ cond (ltb max_text (length text)) (refusal TEXT_TOO_LONG) (formed (is_of_form text))
   unfolding read_answer take_answer formed
-  read_is room = refl
+  read_is = refl
 
-  plan_is : (room : ℕ) (x : Answer) → x ≡ read_answer text room → plan_if_done x (frame_in text) (ports_in text) ≡ read_plan text room
-  unfolding read_plan
-  plan_is room x e = ap (λ (a : Answer). plan_if_done a (frame_in text) (ports_in text)) e
-
-  buffer_is : (buffer : List ℕ) (x : Answer) → x ≡ read_answer text (length buffer) → over_if_done x (list_in text) buffer ≡ read_into text buffer
-  unfolding read_into
-  buffer_is buffer x e = ap (λ (a : Answer). over_if_done a (list_in text) buffer) e
-
-  pub too_long : max_text < length text → (buffer : List ℕ)
-      → (plan_of (refusal TEXT_TOO_LONG) 0 0 ≡ read_plan text (length buffer)) × (buffer ≡ read_into text buffer)
-  too_long u buffer =
-      let e = sym (read_is (length buffer) ∙ ap (λ (b : Bool). cond b (refusal TEXT_TOO_LONG) (formed (length buffer))) (lt-ltb max_text (length text) u)) in
-      (plan_is (length buffer) (refusal TEXT_TOO_LONG) e, buffer_is buffer (refusal TEXT_TOO_LONG) e)
+  pub too_long : max_text < length text → refused TextTooLong ≡ read_answer text room
+  too_long u = sym (read_is ∙ ap (λ (b : Bool). cond b (refusal TEXT_TOO_LONG) (formed (is_of_form text))) (lt-ltb max_text (length text) u))
 
   module _ (short : length text ≤ max_text) where
-    within : (room : ℕ) → read_answer text room ≡ formed room
-    within room = read_is room ∙ ap (λ (b : Bool). cond b (refusal TEXT_TOO_LONG) (formed room)) (le-ltb max_text (length text) short)
+    within : read_answer text room ≡ formed (is_of_form text)
+    within = read_is ∙ ap (λ (b : Bool). cond b (refusal TEXT_TOO_LONG) (formed (is_of_form text))) (le-ltb max_text (length text) short)
 
-    pub not_formed : is_of_form text ≡ false → (at : ℕ) → at ≡ lived start text → (buffer : List ℕ)
-        → (plan_of (answer TEXT_NOT_OF_FORM (pos at)) 0 0 ≡ read_plan text (length buffer)) × (buffer ≡ read_into text buffer)
+    pub form_refused : (r : Refusal) → Err r ≡ scanned text → refused r ≡ read_answer text room
     unfolding formed
-    not_formed f at is buffer =
-        let e : answer TEXT_NOT_OF_FORM (pos at) ≡ read_answer text (length buffer) =
-        ap (λ (n : ℕ). answer TEXT_NOT_OF_FORM (pos n)) is
-        ∙ sym (within (length buffer)
-        ∙ ap (λ (b : Bool). cond (not b) (answer TEXT_NOT_OF_FORM (pos (lived start text))) (take_answer (frame_in text) (ports_in text) (list_in text) (length buffer))) f) in
-        (plan_is (length buffer) (answer TEXT_NOT_OF_FORM (pos at)) e, buffer_is buffer (answer TEXT_NOT_OF_FORM (pos at)) e)
+    form_refused r e = let h = not_of_form text r e in ap refused h.1 ∙ sym (within ∙ ap formed h.0)
 
-    module _ (f : is_of_form text ≡ true) where
-      taken_is : (room : ℕ) → take_answer (frame_in text) (ports_in text) (list_in text) room ≡ read_answer text room
-      unfolding formed
-      taken_is room =
-          sym (within room ∙ ap (λ (b : Bool). cond (not b) (answer TEXT_NOT_OF_FORM (pos (lived start text))) (take_answer (frame_in text) (ports_in text) (list_in text) room)) f)
+    pub numbers_decide : (ns : List ℕ) → Ok ns ≡ scanned text → read_answer text room ≡ take_answer (frame_in text) (ports_in text) (list_in text) room
+    unfolding formed
+    numbers_decide ns e = within ∙ ap formed (of_form text ns e).0
 
-      pub numbers_decide : (buffer : List ℕ)
-          → (taken_plan (numbers_in start text) (length buffer) ≡ read_plan text (length buffer)) × (taken_into (numbers_in start text) buffer ≡ read_into text buffer)
-      unfolding taken_plan taken_into frame_in ports_in list_in
-      numbers_decide buffer = (plan_is (length buffer) _ (taken_is (length buffer)), buffer_is buffer _ (taken_is (length buffer)))
+-- and the buffer stays
+pub form_stays : (text buffer : List ℕ) (r : Refusal) → length text ≤ max_text → Err r ≡ scanned text → buffer ≡ read_into text buffer
+unfolding read_into
+form_stays text buffer r short e = refused_stays r _ (form_refused text (length buffer) short r e) (list_in text) buffer
 
-  -- whether the text is of the form, by how far it was read and where that may be the end
-  pub cut_short : lived start text < length text → is_of_form text ≡ false
-  unfolding is_of_form
-  cut_short u = ap (λ (b : Bool). b && may_end (past_all start text)) (ne_eqb (lived start text) (length text) (λ x. omega arith))
+module _ (text ns : List ℕ) (e : Ok ns ≡ scanned text) where
+  -- a text of the form has a frame and ports
+  pub two_kept : 2 ≤ length ns
+  two_kept =
+      let h = of_form text ns e in
+      omega (arith, ap length h.1, length-map (numbers_in start text) (λ n. min n max_word), two_numbers text h.0)
 
-  pub read_through : lived start text ≡ length text → (b : Bool) → may_end (past_all start text) ≡ b → is_of_form text ≡ b
-  unfolding is_of_form
-  read_through e b m = ap (λ (x : Bool). x && may_end (past_all start text)) (eq-eqb (lived start text) (length text) e) ∙ m
+  module _ (short : length text ≤ max_text) where
+    -- what is made of its numbers as they were kept is what reading hands back and leaves
+    pub plan_read : (room : ℕ) → taken_plan ns room ≡ read_plan text room
+    unfolding taken_plan read_plan frame_in ports_in list_in
+    plan_read room =
+        ap (λ (l : List ℕ). taken_plan l room) (of_form text ns e).1
+        ∙ numbers_plan (numbers_in start text) room
+        ∙ ap (λ (a : Answer). plan_if_done a (frame_in text) (ports_in text)) (sym (numbers_decide text room short ns e))
 
--- what a scan tells
-module _ (text numbers : List ℕ) (s : HowFar) (scanned : Scanned text numbers s) where
-  pub far_within : s.at ≤ length text
-  far_within = omega (arith, scanned.as_far, lived_most start text)
+    pub list_read : (buffer : List ℕ) → taken_into ns buffer ≡ read_into text buffer
+    unfolding taken_into read_into frame_in ports_in list_in
+    list_read buffer =
+        ap (λ (l : List ℕ). taken_into l buffer) (of_form text ns e).1
+        ∙ numbers_over (numbers_in start text) buffer
+        ∙ ap (λ (a : Answer). over_if_done a (list_in text) buffer) (sym (numbers_decide text (length buffer) short ns e))
 
-  module _ (through : length text ≤ s.at) where
-    pub to_the_end : s.at ≡ length text
-    to_the_end = omega (arith, far_within)
-
-    all_lived : lived start text ≡ length text
-    all_lived = sym scanned.as_far ∙ to_the_end
-
-    pub form_is : (b : Bool) → b ≡ may_end s.reader → is_of_form text ≡ b
-    form_is b m = read_through text all_lived b (ap may_end (sym (scanned.stands to_the_end)) ∙ sym m)
-
-    pub numbers_kept : take s.count numbers ≡ in_words (numbers_in start text)
-    numbers_kept = scanned.kept to_the_end
-
-    pub two_kept : (b : Bool) → b ≡ may_end s.reader → b ≡ true → 2 ≤ length (take s.count numbers)
-    two_kept b m t =
-        omega (
-          arith,
-          ap length numbers_kept,
-          length-map (numbers_in start text) (λ n. min n max_word),
-          two_numbers text (form_is b m ∙ t),
-        )
+-- by these the check proves the reading
+pub ruleset reading = (too_long, form_refused, form_stays, two_kept, plan_read, list_read, refused_plan, refused_stays)

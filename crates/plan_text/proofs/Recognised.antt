@@ -13,7 +13,7 @@ use Rattle.plan_text.specs.declared.reader.Field.TheVariants.{Frame, Ports, Inpu
 use Rattle.plan_text.specs.declared.reader.Reader.{Reader}
 use Rattle.plan_text.specs.Digits.{digits}
 use Rattle.plan_text.specs.Form.{max_number, text_of_plan, AllShort, OfForm}
-use Rattle.plan_text.specs.Reading.{key_of, is_input, may_end, before_field, start, lived, past_all, numbers_in, is_of_form, frame_in, ports_in, list_in}
+use Rattle.plan_text.specs.Reading.{key_of, is_input, may_end, before_field, start, lived, past_all, numbers_in, is_of_form, frame_in, ports_in, list_in, started, value_of}
 use Rattle.plan_text.proofs.Standing.{Standing, stands_start}
 use Rattle.plan_text.proofs.Running.{Runs}
 use Rattle.plan_text.proofs.Fields.{OfThrees, fields_text, field_after, plan_fields, threes_after, after_threes, fields_run}
@@ -80,7 +80,7 @@ module _ (text : List ℕ) (o : OfForm text) where
 
 -- where a text may end nothing of a field has begun
 nothing_begun : (q : Reader) → Standing q → may_end q ≡ true → begun q ≡ []
-nothing_begun q s e = ap (λ (k : Bool). take q.matched (key_of q.field) ++ cond k (digits q.value) []) fresh ∙ ap (λ (n : ℕ). take n (key_of q.field) ++ []) none
+nothing_begun q s e = ap (λ (k : Bool). take q.matched (key_of q.field) ++ cond k (digits (value_of q)) []) fresh ∙ ap (λ (n : ℕ). take n (key_of q.field) ++ []) none
   where
     parts : (is_input q.field ≡ true) × (eqb q.matched 0 ≡ true)
     parts = both_true (is_input q.field) (eqb q.matched 0) e
@@ -95,7 +95,7 @@ nothing_begun q s e = ap (λ (k : Bool). take q.matched (key_of q.field) ++ cond
     some_key Output h = absurd (true≢false (sym h))
     some_key Cells h = absurd (true≢false (sym h))
 
-    fresh : q.started ≡ false
+    fresh : started q ≡ false
     fresh = s.key_first (lt-ltb q.matched (length (key_of q.field)) (omega (arith, none, some_key q.field parts.0)))
 
 pub recognised_form : (text : List ℕ) → is_of_form text ≡ true → OfForm text

@@ -6,7 +6,7 @@ use mathlib.Core.List.{List, [], ◌∷◌, ◌++◌}
 use native.Mathlib.Omega.{arith}
 use lib.ListN.{length, take, length-append}
 use Rattle.plan_text.specs.declared.reader.Reader.{Reader}
-use Rattle.plan_text.specs.Reading.{takes, ends_number, past, lived, past_all, numbers_in}
+use Rattle.plan_text.specs.Reading.{takes, ends_number, past, lived, past_all, numbers_in, value_of}
 
 -- a reading that lives through all bytes has taken the first, and lives through the others
 pub lives_first : (r : Reader) (b : ℕ) (t : List ℕ) → lived r (b ∷ t) ≡ length (b ∷ t) → takes r b ≡ true
@@ -63,21 +63,21 @@ runs_byte {r} {q} {p} {b} {t} {ns} e n h run =
       alive = lived_taken r b t e ∙ ap suc (ap (λ (s : Reader). lived s t) h ∙ run.alive);
       stands = ap (λ (s : Reader). past_all s t) h ∙ run.stands;
       ended =
-          ap (λ (k : Bool). cond k (r.value ∷ numbers_in (past r b) t) (numbers_in (past r b) t)) n
+          ap (λ (k : Bool). cond k (value_of r ∷ numbers_in (past r b) t) (numbers_in (past r b) t)) n
           ∙ ap (λ (s : Reader). numbers_in s t) h
           ∙ run.ended;
     }
 
 pub runs_end : {r q p : Reader} {b : ℕ} {t ns : List ℕ} → takes r b ≡ true → ends_number r b ≡ true → past r b ≡ q → Runs q t p ns
-    → Runs r (b ∷ t) p (r.value ∷ ns)
+    → Runs r (b ∷ t) p (value_of r ∷ ns)
 unfolding lived past_all numbers_in
 runs_end {r} {q} {p} {b} {t} {ns} e n h run =
     record {
       alive = lived_taken r b t e ∙ ap suc (ap (λ (s : Reader). lived s t) h ∙ run.alive);
       stands = ap (λ (s : Reader). past_all s t) h ∙ run.stands;
       ended =
-          ap (λ (k : Bool). cond k (r.value ∷ numbers_in (past r b) t) (numbers_in (past r b) t)) n
-          ∙ ap (λ (ms : List ℕ). r.value ∷ ms) (ap (λ (s : Reader). numbers_in s t) h ∙ run.ended);
+          ap (λ (k : Bool). cond k (value_of r ∷ numbers_in (past r b) t) (numbers_in (past r b) t)) n
+          ∙ ap (λ (ms : List ℕ). value_of r ∷ ms) (ap (λ (s : Reader). numbers_in s t) h ∙ run.ended);
     }
 
 -- one piece after the other
@@ -103,9 +103,9 @@ numbers_in-append r [] t = refl
 numbers_in-append r (b ∷ s) t = go (ends_number r b) (numbers_in-append (past r b) s t)
   where
     go : (k : Bool) → numbers_in (past r b) (s ++ t) ≡ numbers_in (past r b) s ++ numbers_in (past_all (past r b) s) t
-        → cond k (r.value ∷ numbers_in (past r b) (s ++ t)) (numbers_in (past r b) (s ++ t))
-        ≡ cond k (r.value ∷ numbers_in (past r b) s) (numbers_in (past r b) s) ++ numbers_in (past_all (past r b) s) t
-    go true e = ap (λ (ms : List ℕ). r.value ∷ ms) e
+        → cond k (value_of r ∷ numbers_in (past r b) (s ++ t)) (numbers_in (past r b) (s ++ t))
+        ≡ cond k (value_of r ∷ numbers_in (past r b) s) (numbers_in (past r b) s) ++ numbers_in (past_all (past r b) s) t
+    go true e = ap (λ (ms : List ℕ). value_of r ∷ ms) e
     go false e = e
 
 pub runs_then : {r q p : Reader} {s t ns ms : List ℕ} → Runs r s q ns → Runs q t p ms → Runs r (s ++ t) p (ns ++ ms)

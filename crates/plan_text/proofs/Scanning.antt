@@ -1,126 +1,98 @@
 -- The scan of a text: what has been read and kept so far, and what is left, make up what the whole text holds.
-use Prim.Native.Nat.{ℕ, suc, min, ◌+◌, ◌≤◌, ◌<◌}
-use mathlib.Core.Path.{◌≡◌, refl, sym, ◌∙◌, ap, subst}
-use mathlib.Core.Bool.{Bool, true, false, cond}
-use mathlib.Core.List.{List, [], ◌∷◌, ◌++◌, append_assoc, append-nil}
-use native.Mathlib.Omega.{arith}
-use native.Mathlib.Nat.{add-zero, zero-add}
-use native.Mathlib.Numerals.{add-one}
-use lib.ListN.{length, get_or, take, drop, set, length-set}
-use lib.Seq.{drop-cons, drop-length, take-suc-set}
+use Rattle.std.proofs.Common.{ℕ, suc, min, ◌+◌, ◌≤◌, ◌<◌, ◌≡◌, refl, sym, ◌∙◌, ap, Bool, true, false, cond, ◌&&◌, List, [], ◌∷◌, ◌++◌, length, get_or, drop, append_assoc, append-nil, add-zero, Ok, Err, arith}
+use Rattle.std.proofs.lemmas.List.{drop_more}
+use borrow.Author.Tests.{eq-eqb, ne_eqb}
+use lib.Dec.{eqb}
+use lib.ListN.{length-append}
+use lib.Seq.{drop-length}
+use Rattle.answers.specs.declared.Refusal.TheVariants.{TextNotOfForm}
 use Rattle.plan_text.specs.declared.reader.Reader.{Reader}
-use Rattle.plan_text.specs.Reading.{start, takes, past, ends_number, lived, past_all, numbers_in}
-use Rattle.plan_text.specs.Plans.{max_word, in_words, Scanned}
-use Rattle.plan_text.proofs.Standing.{Standing, stands_start, stands_past}
+use Rattle.plan_text.specs.Reading.{start, value_of, takes, past, ends_number, lived, past_all, numbers_in, may_end, is_of_form}
+use Rattle.plan_text.specs.Plans.{max_word, in_words, scanned}
 
-pub record Going (text before numbers : List ℕ) (r : Reader) (at count : ℕ) : Type 0 where
-  pub within : at ≤ length text
-  pub few : count ≤ at
-  pub as_long : length numbers ≡ length before
-  pub standing : Standing r
+pub record Going (text numbers : List ℕ) (r : Reader) (at : ℕ) : Type 0 where
+  pub few : length numbers ≤ at
   pub lives : lived start text ≡ at + lived r (drop at text)
   pub stands : past_all start text ≡ past_all r (drop at text)
-  pub kept : in_words (numbers_in start text) ≡ take count numbers ++ in_words (numbers_in r (drop at text))
+  pub kept : in_words (numbers_in start text) ≡ numbers ++ in_words (numbers_in r (drop at text))
 
-pub going_start : (text before : List ℕ) (r : Reader) → r ≡ start → Going text before before r 0 0
-going_start text before r e =
-    record {
-      within = omega arith;
-      few = omega arith;
-      as_long = refl;
-      standing = subst (λ (x : Reader). Standing x) (sym e) stands_start;
-      lives = sym (zero-add (lived r text) ∙ ap (λ (x : Reader). lived x text) e);
-      stands = ap (λ (x : Reader). past_all x text) (sym e);
-      kept = ap (λ (x : Reader). in_words (numbers_in x text)) (sym e);
-    }
+module _ {text numbers : List ℕ} {r : Reader} {at : ℕ} (g : Going text numbers r at) where
+  module _ (u : at < length text) where
+    b : ℕ
+    b = get_or text at 0
 
-module _ (text before numbers : List ℕ) (r : Reader) (at count : ℕ) (g : Going text before numbers r at count) where
-  module _ (room : length text ≤ length before) (u : at < length text) (b : ℕ) (is : b ≡ get_or text at 0) where
-    ahead : drop at text ≡ b ∷ drop (at + 1) text
-    ahead =
-        drop-cons text at 0 u
-        ∙ ap (λ (x : ℕ). x ∷ drop (suc at) text) (sym is)
-        ∙ ap (λ (k : ℕ). b ∷ drop k text) (sym (add-one at))
+    rest : List ℕ
+    rest = drop (at + 1) text
 
-    pub room_left : count < length numbers
-    room_left = omega (arith, g.few, g.as_long)
+    ahead : drop at text ≡ b ∷ rest
+    unfolding b rest
+    ahead = drop_more text at 0 u
 
-    pub dies : takes r b ≡ false → Scanned text numbers (record { reader = r; at = at; count = count })
-    unfolding lived
+    -- the text dies at the first byte that is not taken
+    pub dies : takes r (get_or text at 0) ≡ false → Err (TextNotOfForm at) ≡ scanned text
+    unfolding b rest lived is_of_form
     dies e =
-        record {
-          as_far =
-              sym
-              (g.lives
-              ∙ ap (λ (t : List ℕ). at + lived r t) ahead
-              ∙ ap (λ (t : Bool). at + cond t (suc (lived (past r b) (drop (at + 1) text))) 0) e
-              ∙ add-zero at);
-          stands = λ x. absurd (omega arith);
-          kept = λ x. absurd (omega arith);
-          counted = omega (arith, g.few, g.as_long);
-        }
+        let here : lived start text ≡ at =
+        g.lives ∙ ap (λ (t : List ℕ). at + lived r t) ahead ∙ ap (λ (k : Bool). at + cond k (suc (lived (past r b) rest)) 0) e ∙ add-zero at in
+        let off : (eqb (lived start text) (length text) && may_end (past_all start text)) ≡ false =
+        ap (λ (k : Bool). k && may_end (past_all start text)) (ne_eqb (lived start text) (length text) (λ x. omega arith)) in
+        rw (off, here) refl
 
-    keeps : (t : Bool) → ends_number r b ≡ t
-        → in_words (numbers_in start text)
-        ≡ take (cond t (count + 1) count) (cond t (set numbers count (min r.value max_word)) numbers) ++ in_words (numbers_in (past r b) (drop (at + 1) text))
+    module _ (e : takes r (get_or text at 0) ≡ true) where
+      lives_on : lived start text ≡ at + 1 + lived (past r b) rest
+      unfolding b rest lived
+      lives_on = g.lives ∙ ap (λ (t : List ℕ). at + lived r t) ahead ∙ ap (λ (k : Bool). at + cond k (suc (lived (past r b) rest)) 0) e ∙ omega arith
+
+      stands_on : past_all start text ≡ past_all (past r b) rest
+      unfolding b rest past_all
+      stands_on = g.stands ∙ ap (λ (t : List ℕ). past_all r t) ahead
+
+      keeps : (k : Bool) → ends_number r b ≡ k
+          → in_words (numbers_in start text) ≡ numbers ++ in_words (cond k (value_of r ∷ numbers_in (past r b) rest) (numbers_in (past r b) rest))
+      unfolding b rest numbers_in
+      keeps k h =
+          g.kept
+          ∙ ap (λ (t : List ℕ). numbers ++ in_words (numbers_in r t)) ahead
+          ∙ ap (λ (x : Bool). numbers ++ in_words (cond x (value_of r ∷ numbers_in (past r b) rest) (numbers_in (past r b) rest))) h
+
+      -- a byte that ends a number, and one that does not
+      pub one_more : ends_number r (get_or text at 0) ≡ true → Going text (numbers ++ min (value_of r) max_word ∷ []) (past r (get_or text at 0)) (at + 1)
+      unfolding b rest
+      one_more h =
+          record {
+            few = omega (arith, g.few, length-append numbers (min (value_of r) max_word ∷ []));
+            lives = lives_on;
+            stands = stands_on;
+            kept = keeps true h ∙ sym (append_assoc numbers (min (value_of r) max_word ∷ []) (in_words (numbers_in (past r b) rest)));
+          }
+
+      pub none_more : ends_number r (get_or text at 0) ≡ false → Going text numbers (past r (get_or text at 0)) (at + 1)
+      unfolding b rest
+      none_more h = record { few = omega (arith, g.few); lives = lives_on; stands = stands_on; kept = keeps false h }
+
+  -- behind the last byte it is of the form exactly if it may end there
+  module _ (all : at ≡ length text) where
+    none_left : drop at text ≡ []
+    none_left = ap (λ (k : ℕ). drop k text) all ∙ drop-length text
+
+    lived_all : lived start text ≡ length text
+    unfolding lived
+    lived_all = g.lives ∙ ap (λ (t : List ℕ). at + lived r t) none_left ∙ add-zero at ∙ all
+
+    form_is : is_of_form text ≡ may_end r
+    unfolding is_of_form past_all
+    form_is =
+        ap (λ (k : Bool). k && may_end (past_all start text)) (eq-eqb (lived start text) (length text) lived_all)
+        ∙ ap may_end (g.stands ∙ ap (λ (t : List ℕ). past_all r t) none_left)
+
+    pub cut_short : may_end r ≡ false → Err (TextNotOfForm (length text)) ≡ scanned text
+    cut_short e = rw (form_is ∙ e, lived_all) refl
+
+    pub ends : may_end r ≡ true → Ok numbers ≡ scanned text
     unfolding numbers_in
-    keeps true e =
-        g.kept
-        ∙ ap (λ (t : List ℕ). take count numbers ++ in_words (numbers_in r t)) ahead
-        ∙ ap (λ (t : Bool). take count numbers ++ in_words (cond t (r.value ∷ numbers_in (past r b) (drop (at + 1) text)) (numbers_in (past r b) (drop (at + 1) text)))) e
-        ∙ sym (append_assoc (take count numbers) (min r.value max_word ∷ []) (in_words (numbers_in (past r b) (drop (at + 1) text))))
-        ∙ ap (λ (t : List ℕ). t ++ in_words (numbers_in (past r b) (drop (at + 1) text)))
-        (sym (take-suc-set numbers count (min r.value max_word) room_left)
-        ∙ ap (λ (k : ℕ). take k (set numbers count (min r.value max_word))) (sym (add-one count)))
-    keeps false e =
-        g.kept
-        ∙ ap (λ (t : List ℕ). take count numbers ++ in_words (numbers_in r t)) ahead
-        ∙ ap (λ (t : Bool). take count numbers ++ in_words (cond t (r.value ∷ numbers_in (past r b) (drop (at + 1) text)) (numbers_in (past r b) (drop (at + 1) text)))) e
+    ends e =
+        rw (form_is ∙ e)
+        (ap Ok (sym (g.kept ∙ ap (λ (t : List ℕ). numbers ++ in_words (numbers_in r t)) none_left ∙ append-nil numbers)))
 
-    longer : (t : Bool) → cond t (count + 1) count ≤ at + 1
-    longer true = omega (arith, g.few)
-    longer false = omega (arith, g.few)
-
-    lengths : (t : Bool) → length (cond t (set numbers count (min r.value max_word)) numbers) ≡ length before
-    lengths true = length-set numbers count (min r.value max_word) ∙ g.as_long
-    lengths false = g.as_long
-
-    pub goes_on : takes r b ≡ true
-        → Going text before (cond (ends_number r b) (set numbers count (min r.value max_word)) numbers) (past r b) (at + 1) (cond (ends_number r b) (count + 1) count)
-    unfolding lived past_all
-    goes_on e =
-        record {
-          within = omega arith;
-          few = longer (ends_number r b);
-          as_long = lengths (ends_number r b);
-          standing = stands_past r b g.standing e;
-          lives =
-              g.lives
-              ∙ ap (λ (t : List ℕ). at + lived r t) ahead
-              ∙ ap (λ (t : Bool). at + cond t (suc (lived (past r b) (drop (at + 1) text))) 0) e
-              ∙ omega arith;
-          stands = g.stands ∙ ap (λ (t : List ℕ). past_all r t) ahead;
-          kept = keeps (ends_number r b) refl;
-        }
-
-    -- the same, with what the turn left named
-    pub turn : takes r b ≡ true → (numbers' : List ℕ) → numbers' ≡ cond (ends_number r b) (set numbers count (min r.value max_word)) numbers
-        → (r' : Reader) → r' ≡ past r b → (count' : ℕ) → count' ≡ cond (ends_number r b) (count + 1) count
-        → Going text before numbers' r' (at + 1) count'
-    turn e numbers' x r' y count' z =
-        subst (λ (n : List ℕ). Going text before n r' (at + 1) count') (sym x)
-        (subst (λ (q : Reader). Going text before (cond (ends_number r b) (set numbers count (min r.value max_word)) numbers) q (at + 1) count') (sym y)
-        (subst (λ (k : ℕ). Going text before (cond (ends_number r b) (set numbers count (min r.value max_word)) numbers) (past r b) (at + 1) k) (sym z) (goes_on e)))
-
-  pub ends : length text ≤ length before → at ≡ length text → Scanned text numbers (record { reader = r; at = at; count = count })
-  unfolding lived past_all numbers_in
-  ends room e =
-      record {
-        as_far = sym (g.lives ∙ ap (λ (t : List ℕ). at + lived r t) none_left ∙ add-zero at);
-        stands = λ x. sym (g.stands ∙ ap (λ (t : List ℕ). past_all r t) none_left);
-        kept = λ x. sym (g.kept ∙ ap (λ (t : List ℕ). take count numbers ++ in_words (numbers_in r t)) none_left ∙ append-nil (take count numbers));
-        counted = omega (arith, g.few, g.as_long);
-      }
-    where
-      none_left : drop at text ≡ []
-      none_left = ap (λ (k : ℕ). drop k text) e ∙ drop-length text
+-- by these the check proves each way out of the scan
+pub ruleset scanning = (dies, cut_short, ends)

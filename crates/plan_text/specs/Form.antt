@@ -1,6 +1,6 @@
 -- The form of a plan text: frame, ports, then none or more flows, a line each, in this order and nothing else.
 use Rattle.std.specs.Prelude.{ℕ, ◌*◌, ◌≤◌, ◌≡◌, List, [], ◌∷◌, ◌++◌, length, take}
-use Rattle.flows.specs.Flows.{per_flow, flow_count}
+use Rattle.flows.specs.Flows.{per_flow, flow_count, input_of, output_of, cells_of}
 use Rattle.plan_text.specs.Digits.{digits}
 
 abbrev pub line_feed : ℕ
@@ -30,6 +30,10 @@ line key n = key ++ digits n ++ line_feed ∷ []
 -- a flow's line: input, output and cells between commas
 abbrev pub flow_line : ℕ → ℕ → ℕ → List ℕ
 flow_line i j c = flow_key ++ digits i ++ comma ∷ digits j ++ comma ∷ digits c ++ line_feed ∷ []
+
+-- flow k's line
+abbrev pub line_of : List ℕ → ℕ → List ℕ
+line_of L k = flow_line (input_of L k) (output_of L k) (cells_of L k)
 
 -- the flows' lines, three numbers a flow
 unfoldable pub flow_lines : List ℕ → List ℕ

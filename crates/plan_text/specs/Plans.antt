@@ -1,14 +1,16 @@
 -- What the reader and the writer answer and leave, refusals included.
-use Rattle.std.specs.Prelude.{ℕ, min, ◌+◌, ◌≤◌, ◌≡◌, not, cond, List, [], ◌∷◌, ◌++◌, map, length, get_or, take, drop, pos, ltb}
+use Rattle.std.specs.Prelude.{ℕ, min, ◌+◌, ◌≤◌, ◌≡◌, not, cond, List, [], ◌∷◌, ◌++◌, map, length, get_or, take, drop, pos, ltb, Result, Ok, Err}
 use Rattle.answers.specs.declared.Answer.{Answer}
+use Rattle.answers.specs.declared.Refusal.{Refusal}
+use Rattle.answers.specs.declared.Refusal.TheVariants.{TextNotOfForm}
 use Rattle.answers.specs.Numbers.{TEXT_TOO_LONG, TEXT_NOT_OF_FORM, BUFFER_TOO_SMALL}
 use Rattle.answers.specs.Limits.{max_text}
-use Rattle.answers.specs.Answers.{Rule, answer, refusal, done_with, is_done, ◌when◌, first}
+use Rattle.answers.specs.Answers.{Rule, answer, refusal, refused, done_with, is_done, ◌when◌, first}
 use Rattle.flows.specs.Flows.{flow_count, list_rules}
-use Rattle.plan_text.specs.declared.reading.Plan.{Plan}
-use Rattle.plan_text.specs.declared.reading.HowFar.{HowFar}
+use Rattle.plan_text.specs.declared.reading.Heading.{Heading}
+use Rattle.plan_text.specs.declared.writer.Writer.{Writer}
 use Rattle.plan_text.specs.Form.{text_of_plan}
-use Rattle.plan_text.specs.Reading.{start, lived, past_all, numbers_in, is_of_form, frame_in, ports_in, list_in}
+use Rattle.plan_text.specs.Reading.{start, lived, numbers_in, is_of_form, frame_in, ports_in, list_in}
 
 -- the buffer with the list at its front; what lies past it stays
 abbrev pub over : List ℕ → List ℕ → List ℕ
@@ -22,15 +24,23 @@ max_word = 65535
 abbrev pub in_words : List ℕ → List ℕ
 in_words ns = map (λ n. min n max_word) ns
 
--- how far a text was read, and the numbers that were kept on the way
-pub record Scanned (text numbers : List ℕ) (s : HowFar) : Type 0 where
-  pub as_far : s.at ≡ lived start text
-  pub stands : s.at ≡ length text → s.reader ≡ past_all start text
-  pub kept : s.at ≡ length text → take s.count numbers ≡ in_words (numbers_in start text)
-  pub counted : s.count ≤ length numbers
+-- what a scan of a text finds: its numbers as 16 bits keep them, or how far its bytes are those of the form
+abbrev pub scanned : List ℕ → Result (List ℕ) Refusal
+scanned text = cond (is_of_form text) (Ok (in_words (numbers_in start text))) (Err (TextNotOfForm (lived start text)))
+
+-- what reading hands back: its answer, beside frame and ports
+pub record Plan : Type 0 where
+  pub answer : Answer
+  pub frame : ℕ
+  pub ports : ℕ
 
 abbrev pub plan_of : Answer → ℕ → ℕ → Plan
 plan_of a M N = record { answer = a; frame = M; ports = N }
+
+-- as a call hands it back: done with the flow count, frame and ports; or why it refuses, and both are 0
+abbrev pub handed : Result Heading Refusal → Plan
+handed (Ok h) = plan_of (done_with (pos h.flows)) h.frame h.ports
+handed (Err r) = plan_of (refused r) 0 0
 
 -- an answer with frame and ports beside it, both 0 on a refusal
 abbrev pub plan_if_done : Answer → ℕ → ℕ → Plan
@@ -93,3 +103,13 @@ pub record Put (before : List ℕ) (at : ℕ) (bytes after : List ℕ) (next : �
   pub next_is : next ≡ at + length bytes
   pub front : take next after ≡ take at before ++ bytes
   pub beyond : drop next after ≡ drop next before
+
+-- the same of a writer: it still writes into the buffer that it was lent
+pub record Puts (before : Writer) (bytes : List ℕ) (after : Writer) : Type 0 where
+  pub same_buffer : after.out.ghost_name ≡ before.out.ghost_name
+  pub as_long : length after.out.now ≡ length before.out.now
+  pub put : Put before.out.now before.at bytes after.out.now after.at
+
+-- its buffer has room for so many bytes more
+abbrev pub HasRoom : Writer → List ℕ → Type 0
+HasRoom w bytes = w.at + length bytes ≤ length w.out.now

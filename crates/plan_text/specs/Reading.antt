@@ -1,5 +1,6 @@
 -- Reading byte by byte: what has been read so far, and which bytes may come next. It dies at the first byte that no text of the form has there.
-use Rattle.std.specs.Prelude.{ℕ, suc, ◌+◌, ◌-◌, ◌*◌, ◌/◌, Bool, true, false, not, cond, ◌&&◌, ◌||◌, List, [], ◌∷◌, length, get_or, drop, eqb, ltb}
+use Rattle.std.specs.Prelude.{ℕ, suc, ◌+◌, ◌-◌, ◌*◌, ◌/◌, Bool, true, false, not, cond, ◌&&◌, ◌||◌, Some, None, List, [], ◌∷◌, length, get_or, drop, eqb, ltb}
+use Rattle.std.specs.Option.{is_some, unwrap_or}
 use Rattle.answers.specs.Limits.{outside}
 use Rattle.plan_text.specs.declared.reader.Reader.{Reader}
 use Rattle.plan_text.specs.declared.reader.Field.{Field}
@@ -38,15 +39,23 @@ in_key r = ltb r.matched (length (key_of r.field))
 abbrev pub is_digit : ℕ → Bool
 is_digit b = not (outside zero_byte (zero_byte + 9) b)
 
+-- a number has begun
+abbrev pub started : Reader → Bool
+started r = is_some r.number
+
+-- the number so far, 0 before its first digit
+abbrev pub value_of : Reader → ℕ
+value_of r = unwrap_or r.number 0
+
 -- one more digit leaves a number without a leading 0 and of at most 5 digits
 abbrev pub may_grow : Reader → Bool
-may_grow r = not r.started || not (outside 1 (max_number / 10) r.value)
+may_grow r = not (started r) || not (outside 1 (max_number / 10) (value_of r))
 
 -- the byte may come next: the key's, a digit, or the end of a number that has begun
 unfoldable pub takes : Reader → ℕ → Bool
 takes r b =
     cond (in_key r) (eqb b (get_or (key_of r.field) r.matched 0))
-    (cond (is_digit b) (may_grow r) (r.started && eqb b (end_of r.field)))
+    (cond (is_digit b) (may_grow r) (started r && eqb b (end_of r.field)))
 
 -- the byte ends a number
 unfoldable pub ends_number : Reader → ℕ → Bool
@@ -54,15 +63,15 @@ ends_number r b = not (in_key r) && not (is_digit b)
 
 -- before any byte of a field
 abbrev pub before_field : Field → Reader
-before_field f = record { field = f; matched = 0; started = false; value = 0 }
+before_field f = record { field = f; matched = 0; number = None }
 
 -- one more byte of the key has come
 abbrev pub past_key_byte : Reader → Reader
-past_key_byte r = record { field = r.field; matched = r.matched + 1; started = r.started; value = r.value }
+past_key_byte r = record { field = r.field; matched = r.matched + 1; number = r.number }
 
 -- one more digit has come
 abbrev pub past_digit : Reader → ℕ → Reader
-past_digit r b = record { field = r.field; matched = r.matched; started = true; value = r.value * 10 + (b - zero_byte) }
+past_digit r b = record { field = r.field; matched = r.matched; number = Some (value_of r * 10 + (b - zero_byte)) }
 
 -- where the reading stands after a byte that it takes
 unfoldable pub past : Reader → ℕ → Reader
@@ -85,7 +94,7 @@ past_all r (b ∷ t) = past_all (past r b) t
 -- the numbers that the bytes end, in order
 unfoldable pub numbers_in : Reader → List ℕ → List ℕ
 numbers_in r [] = []
-numbers_in r (b ∷ t) = let rest = numbers_in (past r b) t in cond (ends_number r b) (r.value ∷ rest) rest
+numbers_in r (b ∷ t) = let rest = numbers_in (past r b) t in cond (ends_number r b) (value_of r ∷ rest) rest
 
 -- a text may end here: behind the ports, or behind a flow's cells
 abbrev pub is_input : Field → Bool

@@ -5,4 +5,5 @@ pub mod keys;
 pub mod lines;
 pub mod reader;
 pub mod reading;
+pub mod writer;
 pub mod writing;

@@ -1,146 +1,139 @@
 // Reading a plan text into a lent buffer. Nothing is written there before the whole text is judged.
-ghost use Rattle.std.specs.Prelude.{◌≡◌, cond, ◌++◌, min, ◌+◌, ◌<◌, ◌≤◌, length, set, drop};
+ghost use Rattle.std.specs.Prelude.{◌≡◌, ◌≤◌, length};
 ghost use Rattle.answers.specs.Limits.{max_text};
-ghost use Rattle.plan_text.specs.Form.{max_number};
-ghost use Rattle.plan_text.specs.Reading.{ends_number};
-ghost use Rattle.plan_text.specs.Plans.{plan_of, max_word, over, Scanned, taken_plan, taken_into, read_plan, read_into};
+ghost use Rattle.plan_text.specs.Plans.{scanned, handed, taken_plan, taken_into, read_plan, read_into};
 
 use crate::reader::{Field, Reader};
-use answers::{Answer, BUFFER_TOO_SMALL, DONE, MAX_TEXT, TEXT_NOT_OF_FORM, TEXT_TOO_LONG};
+use answers::{Given, MAX_TEXT, Refusal};
+use flows::Plan;
+use std::marker::Model;
 
-// The largest number of 16 bits.
-const MAX_WORD: usize = 65535;
-
-// What reading hands back: its answer, beside frame and ports, both 0 on a refusal.
-#[derive(Clone, Copy)]
-pub struct Plan {
-    pub answer: Answer,
+// The head of a plan that was read: frame and ports, and how many flows the list has.
+#[derive(Clone, Copy, Debug, PartialEq, Eq)]
+pub struct Heading {
     pub frame: usize,
     pub ports: usize,
+    pub flows: u16,
 }
 
-// How far a text was read: where the reading stands, at which byte, and how many numbers were kept.
-#[derive(Clone, Copy)]
-pub struct HowFar {
-    pub reader: Reader,
-    pub at: usize,
-    pub count: usize,
-}
+// The detail is the flow count.
+impl Given for Heading {
+    ghost use Rattle.std.specs.Prelude.{pos};
 
-fn wide(x: u16) -> usize
-    ensures { result ≡ x }
-{
-    x as usize
-}
+    ghost detail = { λ heading. pos heading.flows };
 
-// A number in 16 bits: what does not fit is kept as the largest, which is out of every range.
-fn in_word(n: usize) -> u16
-    ensures { result ≡ min n max_word }
-{
-    if n < MAX_WORD {
-        return n as u16;
+    fn detail(self) -> i32 {
+        i32::from(self.flows)
     }
-    MAX_WORD as u16
 }
 
-// Keeps the number that a byte ends, if it ends one; hands back how many are kept.
-fn keep(reader: Reader, b: u8, numbers: &mut [u16], count: usize) -> usize
-    requires { count < length numbers.old }
-    ensures kept { result ≡ cond (ends_number reader b) (count + 1) count }
-    ensures stored { numbers.new ≡ cond (ends_number reader b) (set numbers.old count (min reader.value max_word)) numbers.old }
-{
-    if crate::reader::ends_number(reader, b) {
-        numbers[count] = in_word(reader.value);
-        return count + 1;
-    }
-    count
+// The numbers of a text, in the order of their coming. What does not fit 16 bits is kept as the largest number of them, which is out of every range.
+#[derive(Drop)]
+struct Numbers {
+    words: [u16; MAX_TEXT],
+    count: usize,
 }
 
-// Reads as far as the bytes are those of the form, and keeps the numbers.
-fn scan(text: &[u8], numbers: &mut [u16]) -> HowFar
-    requires { length text.now ≤ length numbers.old }
-    ensures { Scanned text.now numbers.new result }
-{
-    let mut reader = crate::reader::before_field(Field::Frame);
-    let mut at = 0;
-    let mut count = 0;
-    while at < text.len() {
-        let b = text[at];
-        if !crate::reader::takes(reader, b) {
-            return HowFar { reader, at, count };
+impl Model for Numbers {
+    ghost use Rattle.std.specs.Prelude.{List, ℕ, take, ◌≤◌};
+    ghost use Rattle.answers.specs.Limits.{max_text};
+
+    ghost Value = { List ℕ };
+
+    ghost view = { λ n. take n.count n.words };
+
+    ghost invariant = { λ n. n.count ≤ max_text };
+}
+
+impl Numbers {
+    ghost use Rattle.std.specs.Prelude.{◌≡◌, ◌<◌, [], ◌∷◌, ◌++◌, min, length};
+    ghost use Rattle.answers.specs.Limits.{max_text};
+    ghost use Rattle.plan_text.specs.Plans.{max_word};
+
+    // Before any has come.
+    fn new() -> Numbers
+        ensures { result ≡ [] }
+    {
+        Numbers {
+            words: [0; MAX_TEXT],
+            count: 0,
         }
-        count = keep(reader, b, numbers, count);
-        reader = crate::reader::past(reader, b);
-        at += 1;
     }
-    HowFar { reader, at, count }
+
+    // Keeps one more.
+    fn keep(&mut self, n: usize)
+        requires { length self.old < max_text }
+        ensures { self.new ≡ self.old ++ min n max_word ∷ [] }
+    {
+        self.words[self.count] = u16::try_from(n).unwrap_or(u16::MAX);
+        self.count += 1;
+    }
+
+    // All that have come.
+    fn as_slice(&self) -> &[u16]
+        ensures { result.now ≡ self.now }
+    {
+        &self.words[..self.count]
+    }
 }
 
-// A refusal's plan.
-fn refused(answer: Answer) -> Plan
-    ensures { result ≡ plan_of answer 0 0 }
+// Reads the numbers of a text of the form; of another text, tells how far its bytes are those of the form.
+#[tactic(auto, using(crate::proofs::Scanning::scanning))]
+fn scan(text: &[u8]) -> Result<Numbers, Refusal>
+    requires { length text.now ≤ max_text }
+    ensures { result ≡ scanned text.now }
 {
-    Plan {
-        answer,
-        frame: 0,
-        ports: 0,
+    let mut numbers = Numbers::new();
+    let mut reader = Reader::before(Field::Frame);
+    for (at, &b) in text.iter().enumerate() {
+        if !reader.takes(b) {
+            return Err(Refusal::TextNotOfForm(at as u16));
+        }
+        if reader.ends_number(b) {
+            numbers.keep(reader.value());
+        }
+        reader = reader.past(b);
     }
-}
-
-// Puts the list at the front of the buffer.
-fn put_over(front: &[u16], buffer: &mut [u16])
-    requires { length front.now ≤ length buffer.old }
-    ensures { buffer.new ≡ over front.now buffer.old }
-{
-    let mut i = 0;
-    while i < front.len() {
-        buffer[i] = front[i];
-        i += 1;
+    if !reader.may_end() {
+        return Err(Refusal::TextNotOfForm(text.len() as u16));
     }
+    Ok(numbers)
 }
 
 // Judges the numbers of a text of the form, frame and ports first, and takes them over if nothing is to be refused.
-fn take_over(numbers: &[u16], list: &mut [u16]) -> Plan
+#[tactic(auto, unfolding(crate::specs::Plans::take_answer, crate::specs::Plans::taken_plan, crate::specs::Plans::taken_into), using(crate::proofs::TakingOver::judging))]
+fn take_over(numbers: &[u16], list: &mut [u16]) -> Result<Heading, Refusal>
     requires { 2 ≤ length numbers.now }
-    ensures handed { result ≡ taken_plan numbers.now (length list.old) }
+    ensures handed { handed result ≡ taken_plan numbers.now (length list.old) }
     ensures left { list.new ≡ taken_into numbers.now list.old }
 {
-    let frame = wide(numbers[0]);
-    let ports = wide(numbers[1]);
-    let flows = &numbers[2..];
-    let listed = flows::list_answer(frame, ports, flows);
-    if listed.number != DONE {
-        return refused(listed);
+    let plan = Plan {
+        frame: usize::from(numbers[0]),
+        ports: usize::from(numbers[1]),
+        list: &numbers[2..],
+    };
+    plan.judge()?;
+    let needed = plan.list.len();
+    if list.len() < needed {
+        return Err(Refusal::BufferTooSmall);
     }
-    if list.len() < flows.len() {
-        return refused(answers::refusal(BUFFER_TOO_SMALL));
-    }
-    put_over(flows, list);
-    Plan {
-        answer: answers::naming(DONE, flows::flow_count(flows)),
-        frame,
-        ports,
-    }
+    list[..needed].copy_from_slice(plan.list);
+    Ok(Heading {
+        frame: plan.frame,
+        ports: plan.ports,
+        flows: plan.flow_count() as u16,
+    })
 }
 
-// Reads a plan text: the flow count as the detail, frame and ports beside it, and the list into the lent buffer.
-pub fn read(text: &[u8], list: &mut [u16]) -> Plan
-    ensures handed { result ≡ read_plan text.now (length list.old) }
+// Reads a plan text: hands back frame, ports and the flow count, and puts the list into the lent buffer.
+#[tactic(auto, unfolding(crate::specs::Plans::read_plan, crate::specs::Plans::read_into), using(crate::proofs::ReadText::reading))]
+pub fn read(text: &[u8], list: &mut [u16]) -> Result<Heading, Refusal>
+    ensures handed { handed result ≡ read_plan text.now (length list.old) }
     ensures left { list.new ≡ read_into text.now list.old }
 {
     if MAX_TEXT < text.len() {
-        return refused(answers::refusal(TEXT_TOO_LONG));
+        return Err(Refusal::TextTooLong);
     }
-    let mut numbers = [0u16; MAX_TEXT];
-    let far = scan(text, &mut numbers);
-    let reader = far.reader;
-    let at = far.at;
-    let count = far.count;
-    if at < text.len() {
-        return refused(answers::naming(TEXT_NOT_OF_FORM, at));
-    }
-    if !crate::reader::may_end(reader) {
-        return refused(answers::naming(TEXT_NOT_OF_FORM, at));
-    }
-    take_over(&numbers[..count], list)
+    let numbers = scan(text)?;
+    take_over(numbers.as_slice(), list)
 }

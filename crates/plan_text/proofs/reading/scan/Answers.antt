@@ -1,16 +1,17 @@
--- `plan_text::reading::scan` meets its contract: what is kept and what is left make up the whole text.
-use mathlib.Core.Path.{refl, sym, ◌∙◌}
-use Rattle.plan_text.proofs.Scanning.{dies, turn, ends}
-use native.Mathlib.Omega.{arith}
+-- A byte ends a number, or it does not.
+use Rattle.std.proofs.Common.{sym, ◌∙◌}
+use Rattle.plan_text.proofs.Scanning.{one_more, none_more}
 use Rattle.plan_text.proofs.reading.scan.Goals as goal
-
-pub returns-then-not-takes : goal.returns-then-not-takes
-returns-then-not-takes c = dies c.args.text.now c.args.numbers.now c.loop-at.numbers c.loop-at.reader c.loop-at.at c.loop-at.count c.loop-at.invariant c.requires c.loop-at-test.true _ refl (sym c.takes.ensures ∙ c.if-not-takes.true)
+use Rattle.plan_text.proofs.reading.scan.Goals.{then-ends_number, else-ends_number}
 
 pub loop-at-preserved : goal.loop-at-preserved
 loop-at-preserved c =
-    turn c.args.text.now c.args.numbers.now c.loop-at.numbers c.loop-at.reader c.loop-at.at c.loop-at.count c.loop-at.invariant c.requires c.loop-at-test.true _ refl
-    (sym c.takes.ensures ∙ c.if-not-takes.false) _ c.keep-count.ensures.stored _ c.past-reader.ensures _ c.keep-count.ensures.kept
-
-pub returns : goal.returns
-returns c = ends c.args.text.now c.args.numbers.now c.loop-at.numbers c.loop-at.reader c.loop-at.at c.loop-at.count c.loop-at.invariant c.requires (omega (arith, c.loop-at-test.false))
+    let e = sym c.takes.ensures ∙ c.if-not-takes.false in
+    elim c.if-ends_number.branch [
+      | then-ends_number w ↦
+          rw (w.numbers-is, w.keep.ensures, w.value.ensures, c.past-reader.ensures)
+          (one_more c.loop-at.invariant c.loop-at-test.true e (sym c.ends_number.ensures ∙ w.if-ends_number.true))
+      | else-ends_number w ↦
+          rw (w.numbers-is, c.past-reader.ensures)
+          (none_more c.loop-at.invariant c.loop-at-test.true e (sym c.ends_number.ensures ∙ w.if-ends_number.false))
+    ]

@@ -1,0 +1,6 @@
+-- The parts of the line, one after the other.
+use Rattle.plan_text.proofs.Putting.{puts_then}
+use Rattle.plan_text.proofs.writer.Writer.put_line.Goals as goal
+
+pub returns : goal.returns
+returns c = puts_then (puts_then c.put_bytes.ensures c.put_number.ensures) c.put_byte.ensures
