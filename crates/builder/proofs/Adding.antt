@@ -5,24 +5,27 @@ use mathlib.Core.Bool.{Bool, true, false, cond, not}
 use mathlib.Core.List.{List}
 use native.Mathlib.Omega.{arith}
 use native.Mathlib.Decide.{ℕ_discrete}
-use borrow.Author.Tests.{eq-eqb, ne_eqb, eqb-true, eqb-false, lt-ltb, le-ltb, ltb-true, not-true}
+use borrow.Author.Tests.{eq-eqb, ne_eqb, eqb-true, eqb-false, lt-ltb, le-ltb, ltb-true, ltb-false, not-true}
 use lib.Arith.{digits_lt}
 use lib.Dec.{eqb, ltb}
 use lib.ListN.{length, drop, set, length-set}
+use Rattle.std.proofs.Common.{Some, None}
 use lib.Seq.{drop-set-lt}
 use Rattle.answers.specs.Limits.{max_ports}
-use Rattle.answers.specs.Lowest.{lowest}
-use Rattle.answers.proofs.Lowest.{lowest_found, somewhere_test, somewhere_false, nowhere_test}
+use Rattle.answers.specs.Lowest.{lowest, found}
+use Rattle.answers.proofs.Lowest.{lowest_found, somewhere_test, somewhere_false, nowhere_test, found_some, found_none}
 use Rattle.answers.specs.Sums.{one}
 use Rattle.flows.specs.Flows.{IsFlow, input_of, output_of, cells_of, input_load, output_load}
 use Rattle.tables.specs.Accepted.{entry, times, Accepted}
-use Rattle.builder.specs.Exchange.{input_at, output_side}
+use Rattle.builder.specs.Exchange.{input_at, none_seen, output_side}
 use Rattle.builder.specs.FreeSlots.{empty_at, input_used, free_of_row, free_of_input}
+use Rattle.builder.specs.InputMarks.{Marked, Remarked}
 use Rattle.builder.specs.AddCell.{one_cell_more, SameFlows, PortsInRange, MayAdd, InTwoSlots, CellAdded}
 use Rattle.builder.proofs.Places.{stored_else}
 use Rattle.builder.proofs.Loads.{free_at_row, free_at_input}
 use Rattle.builder.proofs.SameFlows.{same_back, same_on, with_cells_same, with_cells_there, with_cells_else, is_flow_same, placed_of, accepted_of, placed_same}
-use Rattle.builder.proofs.Placing.{no_marks, turned, put_cell, input_at_flow, turned_exchanged, put_placed, put_times}
+use Rattle.builder.proofs.Remarking.{marked_again}
+use Rattle.builder.proofs.Placing.{turned, put_cell, input_at_flow, turned_exchanged, put_placed, put_times}
 
 -- a test that holds in a range holds at the lowest number that is found
 found_there : (count : ℕ) (test : ℕ → Bool) (s : ℕ) → s < count → test s ≡ true → (lowest 0 count test < count) × (test (lowest 0 count test) ≡ true)
@@ -206,64 +209,81 @@ module _ (w M N : ℕ) (L : List ℕ) (k : ℕ) (T : List ℕ) (room : N ≤ w) 
       past false e = refl
 
 -- the step as the code goes: the row, the two slots, the run and the store, or no slot and the table as it was
-module _ (M N : ℕ) (L : List ℕ) (k : ℕ) (T : List ℕ) (may : MayAdd M N L k T) (out into first second : ℕ)
-    (out-is : out ≡ output_of L k) (first-is : first ≡ free_of_row M T (out - 1)) (into-is : into ≡ input_of L k) (second_is : second ≡ free_of_input M N L T into) where
-  first_slot : first ≡ out_slot M L k T
-  first_slot = first-is ∙ ap (λ (x : ℕ). free_of_row M T (x - 1)) out-is
-
-  second_slot : second ≡ in_slot M N L k T
-  second_slot = second_is ∙ ap (λ (x : ℕ). free_of_input M N L T x) into-is
-
+module _ {M N : ℕ} {L : List ℕ} {k : ℕ} {T : List ℕ} (may : MayAdd M N L k T) {out into : ℕ} (out_is : out ≡ output_of L k) (into_is : into ≡ input_of L k) where
   whole : CellAdded M N L k T (with_cell max_ports M N L k T)
   whole =
       let h = may.table in
       cell_added max_ports M N L k T h.ports_in_range.at_most may.ports may.flow h.long_enough (omega (arith, h.frame_in_range.at_least))
 
-  pub added_by_run : (T' T'' : List ℕ) → first < M → second < M → T' ≡ output_side M N L first second (out - 1) (no_marks max_ports) T
-      → T'' ≡ set T' ((out - 1) * M + second) k → CellAdded M N L k T T''
-  added_by_run T' T'' lp lq e f =
+  none_below : (test : ℕ → Bool) → None ≡ found 0 M test → M ≤ lowest 0 M test
+  none_below test e = omega (arith, ltb-false _ _ (found_none 0 M test e))
+
+  unless : (A : List ℕ) {b : Bool} → b ≡ false → cond b A T ≡ T
+  unless A e = ap (λ (b : Bool). cond b A T) e
+
+  pub row_full : None ≡ found 0 M (empty_at M T (out - 1)) → CellAdded M N L k T T
+  unfolding free_of_row
+  row_full e =
       subst (λ (x : List ℕ). CellAdded M N L k T x)
-      (ap (λ (b : Bool). cond b (cond (ltb q M) (put j p q) T) T) (lt-ltb p M (omega (arith, first_slot)))
-      ∙ ap (λ (b : Bool). cond b (put j p q) T) (lt-ltb q M (omega (arith, second_slot)))
-      ∙ sym (f ∙ ap (λ (x : List ℕ). set x ((out - 1) * M + second) k) e
-      ∙ ap (λ (x : ℕ). put (x - 1) first second) out-is ∙ ap (λ (x : ℕ). put j x second) first_slot ∙ ap (λ (x : ℕ). put j p x) second_slot))
-      whole
-    where
-      p : ℕ
-      p = out_slot M L k T
+      (unless _ (le-ltb (out_slot M L k T) M (none_below (empty_at M T (row_of L k)) (e ∙ ap (λ (x : ℕ). found 0 M (empty_at M T (x - 1))) out_is)))) whole
 
-      q : ℕ
-      q = in_slot M N L k T
-
-      j : ℕ
-      j = row_of L k
-
-      put : ℕ → ℕ → ℕ → List ℕ
-      put r s t = put_cell max_ports M N L k s t r T
-
-  -- every entry at another slot is as it was
-  pub added_elsewhere : (T' T'' : List ℕ) (lp : first < M) (lq : second < M) → T' ≡ output_side M N L first second (out - 1) (no_marks max_ports) T
-      → T'' ≡ set T' ((out - 1) * M + second) k → (r s : ℕ) → s < M → (s ≡ first → ⊥) → (s ≡ second → ⊥) → entry M T'' r s ≡ entry M T r s
-  added_elsewhere T' T'' lp lq e f r s ls d d' =
-      let o = may.ports.outputs k may.flow in
-      let h = may.table in
-      ap (λ (t : List ℕ). entry M t r s) f
-      ∙ stored_else M T' r s (out - 1) second k ls lq (λ _ x. d' x)
-      ∙ ap (λ (t : List ℕ). entry M t r s) e
-      ∙ (turned_exchanged max_ports M N L T k first second (out - 1) h.ports_in_range.at_most lp lq (omega (arith, out-is, o.at_least, o.at_most)) h.long_enough).others r s ls d d'
-
-  pub row_full : M ≤ first → CellAdded M N L k T T
-  row_full l = subst (λ (x : List ℕ). CellAdded M N L k T x) (unless _ (le-ltb (out_slot M L k T) M (omega (arith, first_slot)))) whole
-    where
-      unless : (A : List ℕ) {b : Bool} → b ≡ false → cond b A T ≡ T
-      unless A e = ap (λ (b : Bool). cond b A T) e
-
-  pub input_full : M ≤ second → CellAdded M N L k T T
-  input_full l =
+  pub input_full : None ≡ found 0 M (λ s. not (input_used M N L T into s)) → CellAdded M N L k T T
+  unfolding free_of_input
+  input_full e =
       subst (λ (x : List ℕ). CellAdded M N L k T x)
       (neither (ltb (out_slot M L k T) M) (put_cell max_ports M N L k (out_slot M L k T) (in_slot M N L k T) (row_of L k) T)
-      (le-ltb (in_slot M N L k T) M (omega (arith, second_slot)))) whole
+      (le-ltb (in_slot M N L k T) M (none_below (λ s. not (input_used M N L T (input_of L k) s)) (e ∙ ap (λ (x : ℕ). found 0 M (λ s. not (input_used M N L T x s))) into_is)))) whole
     where
       neither : (a : Bool) (A : List ℕ) {b : Bool} → b ≡ false → cond a (cond b A T) T ≡ T
-      neither true A e = ap (λ (b : Bool). cond b A T) e
+      neither true A e = unless A e
       neither false A e = refl
+
+  -- both ends have a slot free
+  module _ {first second : ℕ} (first_is : Some first ≡ found 0 M (empty_at M T (out - 1))) (second_is : Some second ≡ found 0 M (λ s. not (input_used M N L T into s))) where
+    first_found : (first < M) × (first ≡ out_slot M L k T)
+    unfolding free_of_row
+    first_found =
+        let f = found_some 0 M (empty_at M T (out - 1)) first first_is in
+        (omega (arith, f.high), f.is ∙ ap (λ (x : ℕ). lowest 0 M (empty_at M T (x - 1))) out_is)
+
+    second_found : (second < M) × (second ≡ in_slot M N L k T)
+    unfolding free_of_input
+    second_found =
+        let f = found_some 0 M (λ s. not (input_used M N L T into s)) second second_is in
+        (omega (arith, f.high), f.is ∙ ap (λ (x : ℕ). lowest 0 M (λ s. not (input_used M N L T x s))) into_is)
+
+    module _ {T' T'' : List ℕ} (ran : T' ≡ output_side M N L first second (out - 1) (none_seen max_ports) T) (put : T'' ≡ set T' ((out - 1) * M + second) k) where
+      pub added_by_run : CellAdded M N L k T T''
+      added_by_run =
+          subst (λ (x : List ℕ). CellAdded M N L k T x)
+          (ap (λ (b : Bool). cond b (cond (ltb q M) (cell j p q) T) T) (lt-ltb p M (omega (arith, first_found.0, first_found.1)))
+          ∙ ap (λ (b : Bool). cond b (cell j p q) T) (lt-ltb q M (omega (arith, second_found.0, second_found.1)))
+          ∙ sym (put ∙ ap (λ (x : List ℕ). set x ((out - 1) * M + second) k) ran
+          ∙ ap (λ (x : ℕ). cell (x - 1) first second) out_is ∙ ap (λ (x : ℕ). cell j x second) first_found.1 ∙ ap (λ (x : ℕ). cell j p x) second_found.1))
+          whole
+        where
+          p : ℕ
+          p = out_slot M L k T
+
+          q : ℕ
+          q = in_slot M N L k T
+
+          j : ℕ
+          j = row_of L k
+
+          cell : ℕ → ℕ → ℕ → List ℕ
+          cell r s t = put_cell max_ports M N L k s t r T
+
+      -- every entry at another slot is as it was
+      added_elsewhere : (r s : ℕ) → s < M → (s ≡ first → ⊥) → (s ≡ second → ⊥) → entry M T'' r s ≡ entry M T r s
+      added_elsewhere r s ls d d' =
+          let o = may.ports.outputs k may.flow in
+          let h = may.table in
+          ap (λ (t : List ℕ). entry M t r s) put
+          ∙ stored_else M T' r s (out - 1) second k ls second_found.0 (λ _ x. d' x)
+          ∙ ap (λ (t : List ℕ). entry M t r s) ran
+          ∙ (turned_exchanged max_ports M N L T k first second (out - 1) h.ports_in_range.at_most first_found.0 second_found.0 (omega (arith, out_is, o.at_least, o.at_most)) h.long_enough).others r s ls d d'
+
+      -- and the marks are right once those of both slots are made anew
+      pub marked_by_run : {U U' U'' : List Bool} → Marked M N L T U → Remarked M N L T'' first U U' → Remarked M N L T'' second U' U'' → Marked M N L T'' U''
+      marked_by_run {U} {U'} {U''} marked a b = marked_again M N L T T'' U U' U'' first second marked added_elsewhere a b

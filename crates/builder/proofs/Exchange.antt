@@ -1,7 +1,8 @@
--- The mathematics of the exchange, on functions: u and v are the inputs that each row holds at slots p and q, w the marks of the rows seen.
+-- The mathematics of the exchange, on functions: u and v are the inputs that each row holds at slots p and q, w whether a row is seen.
 -- A row that holds nothing there holds input 0.
 use Prim.Native.Nat.{ℕ}
 use mathlib.Core.Path.{◌≡◌, sym, ◌∙◌, ap}
+use mathlib.Core.Bool.{Bool, false}
 use native.Mathlib.Decide.{ℕ_discrete}
 
 -- no two rows hold one input
@@ -17,14 +18,14 @@ abbrev pub Free : (ℕ → ℕ) → ℕ → Type 0
 Free v z = (a : ℕ) → v a ≡ z → ⊥
 
 -- what holds before row r is swapped
-pub record Ready (u v w : ℕ → ℕ) (r : ℕ) : Type 0 where
-  pub fresh : w r ≡ 0
+pub record Ready (u v : ℕ → ℕ) (w : ℕ → Bool) (r : ℕ) : Type 0 where
+  pub fresh : w r ≡ false
   pub p_clean : CleanBut r u
   pub q_clean : Clean v
   -- the input in the way stands nowhere at q
   pub free_at_q : (u r ≡ 0 → ⊥) → Free v (u r)
   -- any other input that no row seen has at q, no row seen has at p
-  pub paired : (z : ℕ) → (z ≡ 0 → ⊥) → (u r ≡ z → ⊥) → ((b : ℕ) → (w b ≡ 0 → ⊥) → v b ≡ z → ⊥) → (a : ℕ) → (w a ≡ 0 → ⊥) → u a ≡ z → ⊥
+  pub paired : (z : ℕ) → (z ≡ 0 → ⊥) → (u r ≡ z → ⊥) → ((b : ℕ) → (w b ≡ false → ⊥) → v b ≡ z → ⊥) → (a : ℕ) → (w a ≡ false → ⊥) → u a ≡ z → ⊥
 
 -- row r has exchanged what it holds at p and at q
 pub record RowSwapped (u v u' v' : ℕ → ℕ) (r : ℕ) : Type 0 where
@@ -34,11 +35,11 @@ pub record RowSwapped (u v u' v' : ℕ → ℕ) (r : ℕ) : Type 0 where
   pub else_q : (a : ℕ) → (a ≡ r → ⊥) → v' a ≡ v a
 
 -- row r is marked
-pub record RowMarked (w w' : ℕ → ℕ) (r : ℕ) : Type 0 where
-  pub here : w' r ≡ 0 → ⊥
+pub record RowMarked (w w' : ℕ → Bool) (r : ℕ) : Type 0 where
+  pub here : w' r ≡ false → ⊥
   pub elsewhere : (a : ℕ) → (a ≡ r → ⊥) → w' a ≡ w a
 
-module _ (u v u' v' w w' : ℕ → ℕ) (r : ℕ) (ready : Ready u v w r) (swap : RowSwapped u v u' v' r) (mark : RowMarked w w' r) where
+module _ (u v u' v' : ℕ → ℕ) (w w' : ℕ → Bool) (r : ℕ) (ready : Ready u v w r) (swap : RowSwapped u v u' v' r) (mark : RowMarked w w' r) where
   -- what came to p was not in the way
   came_new : (u' r ≡ 0 → ⊥) → u r ≡ u' r → ⊥
   came_new n e = ready.free_at_q (λ z. n (sym e ∙ z)) r (sym swap.at_p ∙ sym e)
@@ -67,14 +68,14 @@ module _ (u v u' v' w w' : ℕ → ℕ) (r : ℕ) (ready : Ready u v w r) (swap 
   p_clean_but a b d d' n e = ready.p_clean a b d d' (λ z. n (swap.else_p a d ∙ z)) (sym (swap.else_p a d) ∙ e ∙ swap.else_p b d')
 
   -- no row seen before holds what came to p
-  unseen_next : (u' r ≡ 0 → ⊥) → (a : ℕ) → (a ≡ r → ⊥) → (w a ≡ 0 → ⊥) → u' a ≡ u' r → ⊥
+  unseen_next : (u' r ≡ 0 → ⊥) → (a : ℕ) → (a ≡ r → ⊥) → (w a ≡ false → ⊥) → u' a ≡ u' r → ⊥
   unseen_next n a d s e =
       ready.paired (u' r) n (came_new n)
       (λ b t f. t (ap w (ready.q_clean b r (λ z. n (sym f ∙ z)) (f ∙ swap.at_p)) ∙ ready.fresh))
       a s (sym (swap.else_p a d) ∙ e)
 
   -- where what came to p leads to no unseen row, p is clean
-  pub p_clean_after : ((u' r ≡ 0 → ⊥) → (a : ℕ) → w' a ≡ 0 → u' a ≡ u' r → ⊥) → Clean u'
+  pub p_clean_after : ((u' r ≡ 0 → ⊥) → (a : ℕ) → w' a ≡ false → u' a ≡ u' r → ⊥) → Clean u'
   p_clean_after stop a b n e = go (ℕ_discrete a r) (ℕ_discrete b r)
     where
       alone : (x : ℕ) → (x ≡ r → ⊥) → (u' r ≡ 0 → ⊥) → u' x ≡ u' r → ⊥
@@ -87,7 +88,7 @@ module _ (u v u' v' w w' : ℕ → ℕ) (r : ℕ) (ready : Ready u v w r) (swap 
       go (no d) (no d') = p_clean_but a b d d' n e
 
   -- where it leads to an unseen row, that row is the only one, and all holds again there
-  pub ready_next : (t : ℕ) → w' t ≡ 0 → (u' r ≡ 0 → ⊥) → u' t ≡ u' r → Ready u' v' w' t
+  pub ready_next : (t : ℕ) → w' t ≡ false → (u' r ≡ 0 → ⊥) → u' t ≡ u' r → Ready u' v' w' t
   ready_next t f n e = record { fresh = f; p_clean = one_row; q_clean = q_clean_after; free_at_q = λ _ a x. came_free n a (x ∙ e); paired = pairs }
     where
       other : t ≡ r → ⊥
@@ -105,10 +106,10 @@ module _ (u v u' v' w w' : ℕ → ℕ) (r : ℕ) (ready : Ready u v w r) (swap 
           go (no c) (yes j) = absurd (only a d c (x ∙ ap u' j))
           go (no c) (no c') = p_clean_but a b c c' m x
 
-      pairs : (z : ℕ) → (z ≡ 0 → ⊥) → (u' t ≡ z → ⊥) → ((b : ℕ) → (w' b ≡ 0 → ⊥) → v' b ≡ z → ⊥) → (a : ℕ) → (w' a ≡ 0 → ⊥) → u' a ≡ z → ⊥
+      pairs : (z : ℕ) → (z ≡ 0 → ⊥) → (u' t ≡ z → ⊥) → ((b : ℕ) → (w' b ≡ false → ⊥) → v' b ≡ z → ⊥) → (a : ℕ) → (w' a ≡ false → ⊥) → u' a ≡ z → ⊥
       pairs z m o g a s x = go (ℕ_discrete a r)
         where
-          seen_before : (b : ℕ) → (w b ≡ 0 → ⊥) → v b ≡ z → ⊥
+          seen_before : (b : ℕ) → (w b ≡ false → ⊥) → v b ≡ z → ⊥
           seen_before b k h = at (ℕ_discrete b r)
             where
               at : Dec (b ≡ r) → ⊥

@@ -1,55 +1,32 @@
 -- How the build comes to its answer: the list's refusals first, then the loads, then the table's length; and what is known where none is due.
-use Prim.Native.Nat.{ℕ, suc, ◌+◌, ◌*◌, ◌≤◌, ◌<◌}
+use Prim.Native.Nat.{ℕ, suc, ◌+◌, ◌*◌, ◌≤◌}
 use mathlib.Core.Path.{◌≡◌, refl, sym, ◌∙◌, ap, subst}
-use mathlib.Core.Bool.{Bool, cond}
-use mathlib.Core.List.{List, []}
+use mathlib.Core.Bool.{Bool}
+use mathlib.Core.List.{List, [], ◌++◌}
 use native.Mathlib.Omega.{arith}
-use borrow.Author.Tests.{lt-ltb, le-ltb, ltb-false}
-use lib.ListN.{length, drop, length-replicate}
+use borrow.Author.Tests.{ltb-false}
+use lib.ListN.{length, take, drop, replicate, length-replicate, length-append, length-drop}
+use Rattle.std.proofs.lemmas.List.{length-take-le}
 use lib.IntN.{pos}
-use lib.Dec.{ltb}
+use Rattle.std.proofs.Common.{Result, Ok, Err, IsErr}
 use Rattle.answers.specs.declared.Answer.{Answer}
-use Rattle.answers.specs.Numbers.{DONE, INPUT_OVERLOADED, OUTPUT_OVERLOADED, TABLE_TOO_SHORT}
+use Rattle.answers.specs.declared.Refusal.{Refusal}
 use Rattle.answers.specs.Limits.{max_frame, max_ports}
-use Rattle.answers.specs.Answers.{answer, refusal, done_with}
-use Rattle.answers.specs.Lowest.{lowest}
+use Rattle.answers.proofs.Outcomes.{not_done}
+use Rattle.answers.specs.Answers.{refused, done_with, plain_answer}
 use Rattle.answers.proofs.Lowest.{somewhere_false}
-use Rattle.answers.proofs.First.{NoneHolds, lowest_named, lowest_passed, refusal_passed_on, goes_on, none_of_them}
-use Rattle.flows.specs.Flows.{flow_count, list_rules, list_answer, input_overloaded, output_overloaded, Fitting}
-use Rattle.flows.proofs.Shape.{listed}
-use Rattle.tables.proofs.Places.{size_of, size_bound}
+use Rattle.answers.proofs.First.{NoneHolds, refusal_passed_on, goes_on, none_of_them}
+use Rattle.flows.specs.Flows.{flow_count, list_rules, list_answer, input_overloaded, output_overloaded, Fitting, InRange}
+use Rattle.flows.proofs.Shape.{listed as in_range_where}
+use Rattle.tables.specs.Accepted.{Accepted}
+use Rattle.tables.proofs.Places.{size_of}
 use Rattle.builder.specs.InputMarks.{Marked}
 use Rattle.builder.specs.Build.{load_rules, load_answer, build_answer, Built}
 use Rattle.builder.specs.Filling.{emptied, SoFar, MayFill, FilledTo}
-use Rattle.builder.proofs.Placing.{no_marks, no_mark}
+use Rattle.builder.specs.Exchange.{none_seen}
+use Rattle.builder.proofs.Placing.{none_seen_at}
 use Rattle.builder.proofs.Remarking.{marked_empty}
-use Rattle.builder.proofs.Progress.{empty_so_far, emptied_entries, emptied_beyond, whole_so_far}
-
-module _ (M N : ℕ) (L : List ℕ) (len i : ℕ) (ei : i ≡ lowest 1 N (input_overloaded M L)) where
-  pub input_refused : i ≤ N → answer INPUT_OVERLOADED (pos i) ≡ load_answer M N L len
-  unfolding load_answer
-  input_refused u = lowest_named 1 N (input_overloaded M L) i ei INPUT_OVERLOADED _ (omega arith)
-
-  module _ (passed : N < i) (o : ℕ) (eo : o ≡ lowest 1 N (output_overloaded M L)) where
-    pub output_refused : o ≤ N → answer OUTPUT_OVERLOADED (pos o) ≡ load_answer M N L len
-    unfolding load_answer
-    output_refused u =
-        lowest_named 1 N (output_overloaded M L) o eo OUTPUT_OVERLOADED _ (omega arith)
-        ∙ lowest_passed 1 N (input_overloaded M L) i ei _ _ (omega arith)
-
-    module _ (passed-too : N < o) where
-      by_length : (b : Bool) → ltb len (N * M) ≡ b → cond b (refusal TABLE_TOO_SHORT) (done_with (pos 0)) ≡ load_answer M N L len
-      unfolding load_answer
-      by_length b e =
-          sym (ap (λ (t : Bool). cond t (refusal TABLE_TOO_SHORT) (done_with (pos 0))) e)
-          ∙ lowest_passed 1 N (output_overloaded M L) o eo _ _ (omega arith)
-          ∙ lowest_passed 1 N (input_overloaded M L) i ei _ _ (omega arith)
-
-      pub length_refused : len < N * M → refusal TABLE_TOO_SHORT ≡ load_answer M N L len
-      length_refused u = by_length _ (lt-ltb len (N * M) u)
-
-      pub loads_done : N * M ≤ len → done_with (pos 0) ≡ load_answer M N L len
-      loads_done u = by_length _ (le-ltb len (N * M) u)
+use Rattle.builder.proofs.Progress.{may_fill_same, empty_so_far, emptied_entries, emptied_beyond, whole_so_far}
 
 -- no load is refused and the table is not too short exactly where every load fits and the table is long enough
 none_due : (M N : ℕ) (L : List ℕ) (len : ℕ) → NoneHolds (load_rules M N L len) → Fitting M N L × (N * M ≤ len)
@@ -61,64 +38,79 @@ none_due M N L len none = (
   ltb-false len (N * M) none.1.1.0,
 )
 
-loads_fit : (M N : ℕ) (L : List ℕ) (len : ℕ) (b : Answer) → b ≡ load_answer M N L len → b.number ≡ DONE → Fitting M N L × (N * M ≤ len)
+-- what the list that passed leaves known
+pub listed : (M N : ℕ) (L : List ℕ) → done_with (pos 0) ≡ list_answer M N L → InRange M N L
+listed M N L e = in_range_where M N L (done_with (pos 0)) e refl
+
+-- and the loads that passed
+pub loaded : (M N : ℕ) (L : List ℕ) (len : ℕ) → done_with (pos 0) ≡ load_answer M N L len → Fitting M N L × (N * M ≤ len)
 unfolding load_answer
-loads_fit M N L len b e d = none_due M N L len (none_of_them (load_rules M N L len) [] (done_with (pos 0)) b e tt d)
+loaded M N L len e = none_due M N L len (none_of_them (load_rules M N L len) [] (done_with (pos 0)) (done_with (pos 0)) e tt refl)
 
-module _ (M N : ℕ) (L T : List ℕ) (a : Answer) (e : a ≡ list_answer M N L) where
-  pub refused_by_list : (a.number ≡ DONE → ⊥) → Built M N L T T a
-  unfolding list_answer build_answer
-  refused_by_list h =
-      record {
-        answered = refusal_passed_on (list_rules M N L) (load_rules M N L (length T)) (done_with (pos 0)) a e h;
-        refused_leaves = λ _. refl;
-        accepted = λ d. absurd (h d);
-        beyond = refl;
-      }
+-- what is built where the list is refused
+pub refused_by_list : (M N : ℕ) (L T : List ℕ) (r : Result (Unit {0}) Refusal) → IsErr r → plain_answer r ≡ list_answer M N L → Built M N L T T (plain_answer r)
+unfolding list_answer build_answer
+refused_by_list M N L T (Ok x) h e = cc
+refused_by_list M N L T (Err r) h e =
+    record {
+      answered = refusal_passed_on (list_rules M N L) (load_rules M N L (length T)) (done_with (pos 0)) (refused r) e (not_done r);
+      refused_leaves = λ _. refl;
+      accepted = λ d. absurd (not_done r d);
+      beyond = refl;
+    }
 
-  module _ (d : a.number ≡ DONE) (b : Answer) (f : b ≡ load_answer M N L (length T)) where
-    on : b ≡ build_answer M N L (length T)
-    unfolding list_answer build_answer load_answer
-    on = f ∙ sym (goes_on (list_rules M N L) (load_rules M N L (length T)) (done_with (pos 0)) a e tt d)
+-- the list passed
+module _ (M N : ℕ) (L T : List ℕ) (pass : done_with (pos 0) ≡ list_answer M N L) where
+  on : (b : Answer) → b ≡ load_answer M N L (length T) → b ≡ build_answer M N L (length T)
+  unfolding list_answer build_answer load_answer
+  on b f = f ∙ sym (goes_on (list_rules M N L) (load_rules M N L (length T)) (done_with (pos 0)) (done_with (pos 0)) pass tt refl)
 
-    pub refused_by_loads : (b.number ≡ DONE → ⊥) → Built M N L T T b
-    refused_by_loads h = record { answered = on; refused_leaves = λ _. refl; accepted = λ x. absurd (h x); beyond = refl }
+  pub refused_by_loads : (r : Result (Unit {0}) Refusal) → IsErr r → plain_answer r ≡ load_answer M N L (length T) → Built M N L T T (plain_answer r)
+  refused_by_loads (Ok x) h f = cc
+  refused_by_loads (Err r) h f =
+      record { answered = on (refused r) f; refused_leaves = λ _. refl; accepted = λ d. absurd (not_done r d); beyond = refl }
 
-    module _ (g : b.number ≡ DONE) where
-      pub may_fill : MayFill M N L T
-      may_fill =
-          let r = listed M N L a e d in
-          let w = loads_fit M N L (length T) b f g in
+  -- the loads passed too
+  module _ (fit : done_with (pos 0) ≡ load_answer M N L (length T)) where
+    pub may_fill : MayFill M N L T
+    may_fill =
+        let r = listed M N L pass in
+        let w = loaded M N L (length T) fit in
+        record {
+          table = record { frame_in_range = r.frame_in_range; ports_in_range = r.ports_in_range; long_enough = w.1 };
+          good = r.good_list;
+          fitting = w.0;
+        }
+
+    -- the emptied table is where the filling starts, and the filled table is what is built
+    module _ (S : List ℕ) (cleared : S ≡ replicate {A = ℕ} (length (take (N * M) T)) 0) where
+      is_emptied : S ++ drop (N * M) T ≡ emptied T (N * M)
+      is_emptied =
+          ap (λ (front : List ℕ). front ++ drop (N * M) T)
+          (cleared ∙ ap (λ (n : ℕ). replicate {A = ℕ} n 0) (length-take-le (N * M) T may_fill.table.long_enough))
+
+      same_length : length (S ++ drop (N * M) T) ≡ length T
+      same_length =
+          let long = may_fill.table.long_enough in
+          ap length is_emptied ∙ grind (arith, length-append, length-drop, length-replicate)
+
+      pub start : MayFill M N L (S ++ drop (N * M) T) × SoFar M N L 1 0 (S ++ drop (N * M) T) × Marked M N L (S ++ drop (N * M) T) (none_seen (max_ports * max_frame))
+      start = (
+        may_fill_same may_fill same_length,
+        subst (λ (t : List ℕ). SoFar M N L 1 0 t) (sym is_emptied) (empty_so_far M N L (emptied T (N * M)) (emptied_entries M N T)),
+        subst (λ (t : List ℕ). Marked M N L t (none_seen (max_ports * max_frame))) (sym is_emptied)
+            (marked_empty M N L (emptied T (N * M)) (none_seen (max_ports * max_frame)) (emptied_entries M N T)
+            (λ r s. none_seen_at (max_ports * max_frame) (r * M + s))),
+      )
+
+      pub built : (T' T'' : List ℕ) (U : List Bool) → T'' ≡ T' → FilledTo M N L (suc (flow_count L)) 0 (S ++ drop (N * M) T) T' U → Built M N L T T'' (done_with (pos 0))
+      built T' T'' U same z =
           record {
-            table = record { frame_in_range = r.frame_in_range; ports_in_range = r.ports_in_range; long_enough = w.1 };
-            good = r.good_list;
-            fitting = w.0;
+            answered = on (done_with (pos 0)) fit;
+            refused_leaves = λ h. absurd (h refl);
+            accepted = λ _. subst (λ (t : List ℕ). Accepted M N L t) (sym same) (whole_so_far M N L T' (suc (flow_count L)) 0 (omega arith) z.so_far);
+            beyond = ap (λ (t : List ℕ). drop (N * M) t) same ∙ z.beyond ∙ ap (λ (t : List ℕ). drop (N * M) t) is_emptied ∙ emptied_beyond T (N * M);
           }
 
-      -- the emptied table is where the filling starts, and the filled table is what is built
-      pub emptied_start : (T' : List ℕ) → T' ≡ emptied T (N * M) → SoFar M N L 1 0 T'
-      emptied_start T' x = subst (λ (t : List ℕ). SoFar M N L 1 0 t) (sym x) (empty_so_far M N L (emptied T (N * M)) (emptied_entries M N T))
-
-      pub built : (T' T'' U : List ℕ) → T' ≡ emptied T (N * M) → FilledTo M N L (suc (flow_count L)) 0 T' T'' U → Built M N L T T'' b
-      built T' T'' U y z =
-          record {
-            answered = on;
-            refused_leaves = λ h. absurd (h g);
-            accepted = λ _. whole_so_far M N L T'' (suc (flow_count L)) 0 (omega arith) z.so_far;
-            beyond = z.beyond ∙ ap (λ (t : List ℕ). drop (N * M) t) y ∙ emptied_beyond T (N * M);
-          }
-
-      pub emptied_marked : (T' : List ℕ) → T' ≡ emptied T (N * M) → Marked M N L T' (no_marks (max_ports * max_frame))
-      emptied_marked T' x =
-          let h = may_fill.table in
-          subst (λ (t : List ℕ). Marked M N L t (no_marks (max_ports * max_frame))) (sym x)
-          (marked_empty M N L (emptied T (N * M)) (no_marks (max_ports * max_frame))
-          (record {
-            frame_in_range = h.frame_in_range;
-            ports_in_range = h.ports_in_range;
-            long_enough = omega (arith, size_bound h, length-replicate {A = ℕ} (max_ports * max_frame) 0);
-          })
-          (emptied_entries M N T) (λ r s. no_mark (max_ports * max_frame) (r * M + s)))
-
--- the lemmas by which the build's refusals are told, and that the table can be filled where none is due
-pub ruleset outcomes = (listed, size_of, refused_by_list, refused_by_loads, may_fill)
+-- the lemmas by which the build's refusals are told, and what is known where none is due
+pub ruleset outcomes = (listed, size_of, loaded, length-take-le, refused_by_list, refused_by_loads)

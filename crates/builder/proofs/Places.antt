@@ -4,7 +4,6 @@ use mathlib.Core.Path.{◌≡◌, sym, ◌∙◌, ap}
 use mathlib.Core.List.{List}
 use native.Mathlib.Omega.{arith}
 use native.Mathlib.Decide.{ℕ_discrete}
-use native.Mathlib.Nat.{mul-le-mul_right, suc-mul}
 use lib.Arith.{digits_lt, digits_div, digits_mod}
 use lib.ListN.{length, get_or, set, length-set}
 use lib.Seq.{get_or-set_same, get_or-set_other}
@@ -22,10 +21,6 @@ same_slot {M} a b ls lt e = sym (digits_mod a ls) ∙ ap (λ (x : ℕ). x % M) e
 -- a place of a row below N and a slot below M lies in a table of N rows
 pub in_table : {M N r s : ℕ} (T : List ℕ) → N * M ≤ length T → r < N → s < M → r * M + s < length T
 in_table T len lr ls = omega (arith, digits_lt lr ls)
-
--- so do all places of such a row
-pub row_within : {M N : ℕ} {T : List ℕ} → Holds M N T → (r : ℕ) → r < N → r * M + M ≤ length T
-row_within {M} h r l = omega (arith, mul-le-mul_right M l, suc-mul r M, h.long_enough)
 
 -- a table as long has the same rows
 pub holds_same : {M N : ℕ} {T : List ℕ} (T' : List ℕ) → Holds M N T → length T' ≡ length T → Holds M N T'

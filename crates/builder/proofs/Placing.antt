@@ -2,18 +2,18 @@
 use Prim.Native.Nat.{ℕ, suc, ◌+◌, ◌*◌, ◌≤◌, ◌<◌}
 use mathlib.Core.Path.{◌≡◌, refl, sym, ◌∙◌, ap, subst}
 use mathlib.Core.Logic.{◌⊎◌, inl, inr}
-use mathlib.Core.Bool.{cond}
+use mathlib.Core.Bool.{Bool, false, cond}
 use mathlib.Core.List.{List}
 use native.Mathlib.Omega.{arith}
 use native.Mathlib.Decide.{ℕ_discrete, dec_lt}
 use borrow.Author.Tests.{eq-eqb, ne_eqb}
 use lib.Dec.{eqb, ltb}
-use lib.ListN.{length, get_or, set, replicate, length-replicate, get_or-replicate, get_or-eq_default}
+use lib.ListN.{length, get_or, set, length-replicate, get_or-replicate, get_or-eq_default}
 use lib.Seq.{get_or-set_same}
 use Rattle.answers.specs.Sums.{one}
 use Rattle.flows.specs.Flows.{IsFlow, input_of, output_of}
 use Rattle.tables.specs.Accepted.{entry, times, FlowOf}
-use Rattle.builder.specs.Exchange.{input_at, unseen, run}
+use Rattle.builder.specs.Exchange.{input_at, none_seen, unseen, run}
 use Rattle.builder.specs.AddCell.{PortsInRange}
 use Rattle.builder.proofs.Exchange.{Clean, Free, Ready}
 use Rattle.builder.proofs.Places.{in_table, stored_else}
@@ -21,16 +21,12 @@ use Rattle.builder.proofs.Alternation.{who, who_in, who_out, mark_of, Exchanged,
 use Rattle.builder.proofs.Kept.{row_kept, times_kept, times_stored}
 use Rattle.builder.proofs.SameFlows.{Placed}
 
--- room to mark w rows, and none marked
-abbrev pub no_marks : ℕ → List ℕ
-no_marks w = replicate {A = ℕ} w 0
-
-pub no_mark : (w a : ℕ) → get_or (no_marks w) a 0 ≡ 0
-no_mark w a = go (dec_lt a w)
+pub none_seen_at : (w a : ℕ) → get_or (none_seen w) a false ≡ false
+none_seen_at w a = go (dec_lt a w)
   where
-    go : Dec (a < w) → get_or (no_marks w) a 0 ≡ 0
-    go (yes l) = get_or-replicate w a 0 0 l
-    go (no d) = get_or-eq_default (no_marks w) 0 {n = a} (omega (arith, length-replicate {A = ℕ} w 0))
+    go : Dec (a < w) → get_or (none_seen w) a false ≡ false
+    go (yes l) = get_or-replicate w a false false l
+    go (no d) = get_or-eq_default (none_seen w) false {n = a} (omega (arith, length-replicate {A = Bool} w false))
 
 pub input_at_empty : (L : List ℕ) (e : ℕ) → e ≡ 0 → input_at L e ≡ 0
 input_at_empty L e z = rw (eq-eqb e 0 z)
@@ -86,14 +82,14 @@ clean_alike u u' clean same a b n e = clean a b (λ z. n (same a ∙ z)) (sym (s
 
 -- the table after the run from row j at slots p and q, and after the cell of flow k is put at q
 abbrev pub turned : ℕ → ℕ → ℕ → List ℕ → ℕ → ℕ → ℕ → List ℕ → List ℕ
-turned w M N L p q j T = run (unseen N (no_marks w)) M N L p q j (no_marks w) T
+turned w M N L p q j T = run (unseen N (none_seen w)) M N L p q j (none_seen w) T
 
 abbrev pub put_cell : ℕ → ℕ → ℕ → List ℕ → ℕ → ℕ → ℕ → ℕ → List ℕ → List ℕ
 put_cell w M N L k p q j T = set (turned w M N L p q j T) (j * M + q) k
 
 module _ (w M N : ℕ) (L T : List ℕ) (k p q j : ℕ) (room : N ≤ w) (lp : p < M) (lq : q < M) (lj : j < N) (len : N * M ≤ length T) where
   pub turned_exchanged : Exchanged M N p q T (turned w M N L p q j T)
-  turned_exchanged = run_exchanged M N L p q lp lq (unseen N (no_marks w)) j (no_marks w) T lj len
+  turned_exchanged = run_exchanged M N L p q lp lq (unseen N (none_seen w)) j (none_seen w) T lj len
 
   pub turned_length : N * M ≤ length (turned w M N L p q j T)
   turned_length = omega (arith, turned_exchanged.same_length)
@@ -114,18 +110,18 @@ module _ (w M N : ℕ) (L T : List ℕ) (k p q j : ℕ) (room : N ≤ w) (lp : p
         go (yes l) (yes z) = some_input (sym e ∙ who_in M N L T q a l ∙ input_at_empty L (entry M T a q) z)
         go (yes l) (no d) = free a l d (sym (who_in M N L T q a l ∙ input_at_flow L (entry M T a q) d) ∙ e)
 
-    start : Ready (who M N L T p) (who M N L T q) (mark_of (no_marks w)) j
+    start : Ready (who M N L T p) (who M N L T q) (mark_of (none_seen w)) j
     start =
         record {
-          fresh = no_mark w j;
+          fresh = none_seen_at w j;
           p_clean = λ a b _ _. clean_of M N L T placed p lp a b;
           q_clean = clean_of M N L T placed q lq;
           free_at_q = λ n. absurd (n empty_row);
-          paired = λ z m o g a s. absurd (s (no_mark w a));
+          paired = λ z m o g a s. absurd (s (none_seen_at w a));
         }
 
-    done : RunDone M N L p q j (no_marks w) T (turned w M N L p q j T)
-    done = run_done M N L p q lp lq (unseen N (no_marks w)) j (no_marks w) T lj (omega (arith, length-replicate {A = ℕ} w 0)) len refl start
+    done : RunDone M N L p q j (none_seen w) T (turned w M N L p q j T)
+    done = run_done M N L p q lp lq (unseen N (none_seen w)) j (none_seen w) T lj (omega (arith, length-replicate {A = Bool} w false)) len refl start
 
     -- row j is empty at q now
     freed : entry M (turned w M N L p q j T) j q ≡ 0

@@ -15,9 +15,10 @@ use Rattle.answers.specs.Sums.{sum, one}
 use Rattle.answers.proofs.Sums.{sum_zero}
 use Rattle.flows.specs.Flows.{flow_count, IsFlow, input_of, output_of, cells_of, input_load, output_load, GoodList, Fitting}
 use Rattle.tables.specs.Accepted.{entry, times, Accepted}
-use Rattle.builder.specs.AddCell.{with_cells, one_cell_more, SameFlows, PortsInRange, MayAdd, CellAdded}
+use Rattle.builder.specs.AddCell.{with_cells, one_cell_more, SameFlows, PortsInRange, CellAdded}
 use Rattle.builder.specs.InputMarks.{Marked}
-use Rattle.builder.specs.Filling.{emptied, SoFar, MayFill, FilledTo}
+use Rattle.builder.specs.Filling.{emptied, SoFar, MayFill, SameFilling, MayGoOn, WentOn}
+use Rattle.builder.specs.declared.filling.Filling.{Filling}
 use Rattle.builder.proofs.Places.{holds_same}
 use Rattle.builder.proofs.Loads.{input_less, output_less}
 use Rattle.builder.proofs.SameFlows.{same_self, same_back, same_on, with_cells_same, with_cells_there, with_cells_else, is_flow_same, placed_of, accepted_of, placed_same}
@@ -147,24 +148,52 @@ good_ports g = record { inputs = g.inputs; outputs = g.outputs }
 pub may_fill_same : {M N : ℕ} {L T T' : List ℕ} → MayFill M N L T → length T' ≡ length T → MayFill M N L T'
 may_fill_same {T' = T'} may e = record { table = holds_same T' may.table e; good = may.good; fitting = may.fitting }
 
-pub may_add : {M N : ℕ} {L : List ℕ} {k : ℕ} {T : List ℕ} → MayFill M N L T → IsFlow L k → MayAdd M N L k T
-may_add may flow = record { table = may.table; ports = good_ports may.good; not_too_many = may.good.not_too_many; flow = flow }
+-- a filling that goes on, turn by turn
+same_still : {f f' f'' : Filling} → SameFilling f f' → SameFilling f' f'' → SameFilling f f''
+same_still s t =
+    record { same_plan = t.same_plan ∙ s.same_plan; same_table = t.same_table ∙ s.same_table; same_marks = t.same_marks ∙ s.same_marks }
 
-pub one_more : (M N : ℕ) (L : List ℕ) (k c : ℕ) (T T' T'' U U' : List ℕ) → MayFill M N L T → IsFlow L k → c < cells_of L k → FilledTo M N L k c T T' U
-    → CellAdded M N L k T' T'' → Marked M N L T'' U' → FilledTo M N L k (c + 1) T T'' U'
-one_more M N L k c T T' T'' U U' may flow more f add marked =
+pub one_more : (f f' f'' : Filling) (k c : ℕ) → MayGoOn f k → IsFlow f.plan.now.list.now k → c < cells_of f.plan.now.list.now k → WentOn f f' k c
+    → CellAdded f'.plan.now.frame f'.plan.now.ports f'.plan.now.list.now k f'.table.now f''.table.now
+    → Marked f'.plan.now.frame f'.plan.now.ports f'.plan.now.list.now f''.table.now f''.used.now → SameFilling f' f'' → WentOn f f'' k (c + 1)
+one_more f f' f'' k c may flow more went add marked same =
+    let p = f.plan.now in
+    let added = rw went.same.same_plan at add in
     record {
-      so_far =
-          subst (λ (n : ℕ). SoFar M N L k n T'') (sym (add-one c))
-          (cell_so_far M N L k flow (good_ports may.good) may.fitting c T' T'' more f.so_far add.accepted);
-      marked = marked;
-      beyond = add.beyond ∙ f.beyond;
+      filled =
+          record {
+            so_far =
+                subst (λ (n : ℕ). SoFar p.frame p.ports p.list.now k n f''.table.now) (sym (add-one c))
+                (cell_so_far p.frame p.ports p.list.now k flow (good_ports may.may_fill.good) may.may_fill.fitting c f'.table.now f''.table.now more went.filled.so_far added.accepted);
+            marked = rw went.same.same_plan at marked;
+            beyond = added.beyond ∙ went.filled.beyond;
+          };
+      same = same_still went.same same;
     }
 
-pub flow_filled : (M N : ℕ) (L : List ℕ) (k c : ℕ) (T T' U : List ℕ) → IsFlow L k → c ≡ cells_of L k → FilledTo M N L k c T T' U → FilledTo M N L (suc k) 0 T T' U
-flow_filled M N L k c T T' U flow e f =
-    record { so_far = flow_so_far M N L k flow T' (subst (λ (n : ℕ). SoFar M N L k n T') e f.so_far); marked = f.marked; beyond = f.beyond }
+pub flow_filled : (f f' : Filling) (k c : ℕ) → IsFlow f.plan.now.list.now k → c ≡ cells_of f.plan.now.list.now k → WentOn f f' k c → WentOn f f' (suc k) 0
+flow_filled f f' k c flow e went =
+    let p = f.plan.now in
+    record {
+      filled =
+          record {
+            so_far = flow_so_far p.frame p.ports p.list.now k flow f'.table.now (subst (λ (n : ℕ). SoFar p.frame p.ports p.list.now k n f'.table.now) e went.filled.so_far);
+            marked = went.filled.marked;
+            beyond = went.filled.beyond;
+          };
+      same = went.same;
+    }
 
-pub one_flow_more : (M N : ℕ) (L : List ℕ) (k : ℕ) (T T' T'' U U' : List ℕ) → FilledTo M N L k 0 T T' U → FilledTo M N L (suc k) 0 T' T'' U' → FilledTo M N L (k + 1) 0 T T'' U'
-one_flow_more M N L k T T' T'' U U' f g =
-    record { so_far = subst (λ (n : ℕ). SoFar M N L n 0 T'') (sym (add-one k)) g.so_far; marked = g.marked; beyond = g.beyond ∙ f.beyond }
+pub one_flow_more : (f f' f'' : Filling) (k : ℕ) → WentOn f f' k 0 → WentOn f' f'' (suc k) 0 → WentOn f f'' (k + 1) 0
+one_flow_more f f' f'' k went next =
+    let p = f.plan.now in
+    let filled = rw went.same.same_plan at next.filled in
+    record {
+      filled =
+          record {
+            so_far = subst (λ (n : ℕ). SoFar p.frame p.ports p.list.now n 0 f''.table.now) (sym (add-one k)) filled.so_far;
+            marked = filled.marked;
+            beyond = filled.beyond ∙ went.filled.beyond;
+          };
+      same = same_still went.same next.same;
+    }

@@ -1,53 +1,50 @@
 // The builder: one cell placed by the exchange, and the build that repeats it.
 #![tactic(auto)]
 
-mod cell;
 mod filling;
 mod run;
-mod slots;
 
 ghost use Rattle.std.specs.Prelude.{◌≡◌, ◌≤◌};
+ghost use Rattle.answers.specs.Answers.{plain_answer};
 ghost use Rattle.answers.specs.Limits.{max_ports, max_frame};
 ghost use Rattle.builder.specs.Build.{load_answer, Built};
 
-use answers::{
-    Answer, DONE, INPUT_OVERLOADED, MAX_FRAME, MAX_PORTS, OUTPUT_OVERLOADED, TABLE_TOO_SHORT,
-};
+use answers::{MAX_FRAME, MAX_PORTS, Refusal};
+use filling::Filling;
+use flows::{Plan, Side};
 
-// Refusals 5, 6 and 7, or done.
-fn load_answer(frame: usize, ports: usize, list: &[u16], length: usize) -> Answer
-    requires { (ports ≤ max_ports) × (frame ≤ max_frame) }
-    ensures { result ≡ load_answer frame ports list.now length }
+// Refusals 5, 6 and 7.
+#[tactic(auto, unfolding(crate::specs::Build::load_answer))]
+fn judge_load(plan: &Plan, length: usize) -> Result<(), Refusal>
+    requires { (plan.now.ports ≤ max_ports) × (plan.now.frame ≤ max_frame) }
+    ensures { plain_answer result ≡ load_answer plan.now.frame plan.now.ports plan.now.list.now length }
 {
-    let input = flows::first_overloaded_input(frame, ports, list);
-    if input <= ports {
-        return answers::naming(INPUT_OVERLOADED, input);
+    if let Some(port) = plan.first_overloaded(Side::Input) {
+        return Err(Refusal::InputOverloaded(port as u16));
     }
-    let output = flows::first_overloaded_output(frame, ports, list);
-    if output <= ports {
-        return answers::naming(OUTPUT_OVERLOADED, output);
+    if let Some(port) = plan.first_overloaded(Side::Output) {
+        return Err(Refusal::OutputOverloaded(port as u16));
     }
-    if length < ports * frame {
-        return answers::refusal(TABLE_TOO_SHORT);
+    if length < plan.ports * plan.frame {
+        return Err(Refusal::TableTooShort);
     }
-    answers::refusal(DONE)
+    Ok(())
 }
 
 // Builds an accepted table for the list, or refuses and leaves the table as it was: nothing is written before the loads are known to fit.
 #[tactic(auto, using(crate::proofs::Outcome::outcomes))]
-pub fn build(frame: usize, ports: usize, list: &[u16], table: &mut [u8]) -> Answer
-    ensures { Built frame ports list.now table.old table.new result }
+pub fn build(plan: &Plan, table: &mut [u8]) -> Result<(), Refusal>
+    ensures { Built plan.now.frame plan.now.ports plan.now.list.now table.old table.new (plain_answer result) }
 {
-    let listed = flows::list_answer(frame, ports, list);
-    if listed.number != DONE {
-        return listed;
-    }
-    let loaded = load_answer(frame, ports, list, table.len());
-    if loaded.number != DONE {
-        return loaded;
-    }
-    filling::clear(table, ports * frame);
-    let mut used = [0u8; MAX_PORTS * MAX_FRAME];
-    filling::fill(frame, ports, list, table, &mut used);
-    loaded
+    plan.judge()?;
+    judge_load(plan, table.len())?;
+    table[..plan.ports * plan.frame].fill(0);
+    let mut used = [false; MAX_PORTS * MAX_FRAME];
+    let mut filling = Filling {
+        plan,
+        table,
+        used: &mut used,
+    };
+    filling.fill();
+    Ok(())
 }

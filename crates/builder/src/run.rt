@@ -1,88 +1,76 @@
-// The exchange run: from an output's row to an input, and from that input to the next row that holds it.
-ghost use Rattle.std.specs.Prelude.{◌≡◌, ◌<◌, length};
+// The exchange run: from an output's row to an input, and from that input to the next row that holds it. Its two sides call each other, a form
+// asked for (docs/DECISIONS.md, "Forms asked for").
+ghost use Rattle.std.specs.Prelude.{◌≡◌, ◌<◌};
+ghost use Rattle.answers.specs.Lowest.{found};
 ghost use Rattle.tables.specs.Check.{Holds};
-ghost use Rattle.builder.specs.Exchange.{swapped, next_row, output_side, input_side, SlotsIn, RowNext};
+ghost use Rattle.builder.specs.Exchange.{input_at, holds_next, output_side, input_side, SlotsIn, RowNext};
 
-use crate::slots::input_at;
-use answers::MAX_PORTS;
+use answers::{MAX_PORTS, first_where};
+use flows::Plan;
 
-// Exchanges what stands at two places.
-fn swap_places(table: &mut [u8], a: usize, b: usize)
-    requires { (a < length table.old) × (b < length table.old) }
-    ensures { table.new ≡ swapped table.old a b }
+// The input whose flow an entry names, and 0 for an empty entry: the definition of the run compares it with 0, also where the list is no good one.
+pub fn input_at(plan: &Plan, flow: u8) -> usize
+    ensures { result ≡ input_at plan.now.list.now flow }
 {
-    let held = table[a];
-    table[a] = table[b];
-    table[b] = held;
+    if flow == 0 {
+        return 0;
+    }
+    plan.input_of(usize::from(flow))
 }
 
-// The first row that is not marked and holds the input at the slot, or one past the last row.
+// The first row not yet seen that holds the input at the slot. That the table is whole stays a clause: the two sides lend the table alone, and write it next.
 fn row_holding(
-    frame: usize,
-    ports: usize,
-    list: &[u16],
+    plan: &Plan,
     table: &[u8],
     slot: usize,
     input: usize,
-    marks: [u8; MAX_PORTS],
-) -> usize
-    requires { Holds frame ports table.now × (slot < frame) }
-    ensures { result ≡ next_row frame ports list.now marks slot input table.now }
+    seen: &[bool; MAX_PORTS],
+) -> Option<usize>
+    requires { Holds plan.now.frame plan.now.ports table.now × (slot < plan.now.frame) }
+    ensures { result ≡ found 0 plan.now.ports (holds_next plan.now.frame plan.now.list.now seen.now slot input table.now) }
 {
-    let mut row = 0;
-    while row < ports {
-        if marks[row] == 0 {
-            if input_at(list, table[row * frame + slot]) == input {
-                return row;
-            }
-        }
-        row += 1;
-    }
-    row
+    first_where(0..plan.ports, |row| {
+        !seen[row] && input_at(plan, table[row * plan.frame + slot]) == input
+    })
 }
 
 // The output side: the row exchanges its entries at the two slots, and the input that came to the first is followed.
 #[cycle(input_side_output_side)]
 pub fn output_side(
-    frame: usize,
-    ports: usize,
-    list: &[u16],
+    plan: &Plan,
     table: &mut [u8],
     first: usize,
     second: usize,
     row: usize,
-    marks: [u8; MAX_PORTS],
+    seen: [bool; MAX_PORTS],
 )
-    requires { SlotsIn frame ports first second table.old × RowNext ports row marks }
-    ensures { table.new ≡ output_side frame ports list.now first second row marks table.old }
+    requires { SlotsIn plan.now.frame plan.now.ports first second table.old × RowNext plan.now.ports row seen }
+    ensures { table.new ≡ output_side plan.now.frame plan.now.ports plan.now.list.now first second row seen table.old }
 {
-    let start = row * frame;
-    swap_places(table, start + first, start + second);
-    let input = input_at(list, table[start + first]);
+    let start = row * plan.frame;
+    table.swap(start + first, start + second);
+    let input = input_at(plan, table[start + first]);
     if input != 0 {
-        let mut seen = marks;
-        seen[row] = 1;
-        input_side(frame, ports, list, table, first, second, input, seen);
+        let mut seen_now = seen;
+        seen_now[row] = true;
+        input_side(plan, table, first, second, input, seen_now);
     }
 }
 
-// The input side: the unmarked row that holds the input at the first slot, if there is one, exchanges in its turn.
+// The input side: the row not yet seen that holds the input at the first slot, if there is one, exchanges in its turn.
 #[cycle(input_side_output_side)]
 fn input_side(
-    frame: usize,
-    ports: usize,
-    list: &[u16],
+    plan: &Plan,
     table: &mut [u8],
     first: usize,
     second: usize,
     input: usize,
-    marks: [u8; MAX_PORTS],
+    seen: [bool; MAX_PORTS],
 )
-    requires { SlotsIn frame ports first second table.old }
-    ensures { table.new ≡ input_side frame ports list.now first second input marks table.old }
+    requires { SlotsIn plan.now.frame plan.now.ports first second table.old }
+    ensures { table.new ≡ input_side plan.now.frame plan.now.ports plan.now.list.now first second input seen table.old }
 {
-    let row = row_holding(frame, ports, list, table, first, input, marks);
-    if row < ports {
-        output_side(frame, ports, list, table, first, second, row, marks);
+    if let Some(row) = row_holding(plan, table, first, input, &seen) {
+        output_side(plan, table, first, second, row, seen);
     }
 }
