@@ -1,7 +1,4 @@
 pub mod Done
-pub mod AboveCounts
-pub mod Outcomes
-pub mod Serving
 pub mod SentBuffer
 pub mod Cells
 pub mod Rotation

@@ -1,7 +1,7 @@
 -- What stands in the sent buffer after a slot: each served output's byte at its place, and past them what stood there.
 use Prim.Native.Nat.{ℕ}
-use mathlib.Core.Path.{◌≡◌, refl, ap}
-use mathlib.Core.Bool.{Bool, true, false, cond}
+use mathlib.Core.Path.{ap}
+use native.Mathlib.Omega.{arith}
 use borrow.Author.Tests.{eqb-true}
 use lib.ListN.{length, get_or}
 use lib.Dec.{eqb}
@@ -11,7 +11,7 @@ use Rattle.answers.specs.Buffers.{written}
 use Rattle.answers.proofs.Sums.{sum_agree}
 use Rattle.answers.proofs.Buffers.{written_at, written_past}
 use Rattle.forwarding.specs.Forwarding.{entries_now, output_byte}
-use Rattle.forwarding.specs.Histories.{a_slot, answer_of, done, sent_after}
+use Rattle.forwarding.specs.Histories.{a_slot, answer_of, sent_after}
 use Rattle.forwarding.specs.SentBuffer.{CellsShown, BytesPastStay}
 use Rattle.forwarding.proofs.Done.{slot_done}
 
@@ -19,15 +19,11 @@ pub cells_shown : CellsShown
 unfolding sent_after
 cells_shown k st T S e =
     let f : ℕ → ℕ = entries_now st.running T in
-    let room = (slot_done st.running T st.waiting (length S) refl (eqb-true (answer_of st (a_slot T (length S))).number DONE e)).asked.sent_room in
+    let room = (slot_done st.running T st.waiting (length S) (eqb-true (answer_of st (a_slot T (length S))).number DONE e)).asked.sent_room in
     simp e
     (sum_agree st.running.ports (λ r. one (eqb (get_or (written st.running.ports (output_byte f st.waiting) S) r 0) k)) (λ r. one (eqb (output_byte f st.waiting r) k))
     (λ r l. ap (λ (b : ℕ). one (eqb b k)) (written_at (output_byte f st.waiting) S st.running.ports r l room)))
 
 pub bytes_past_stay : BytesPastStay
 unfolding sent_after
-bytes_past_stay st T S r l = go (done st (a_slot T (length S)))
-  where
-    go : (b : Bool) → get_or (cond b (written st.running.ports (output_byte (entries_now st.running T) st.waiting) S) S) r 0 ≡ get_or S r 0
-    go true = written_past (output_byte (entries_now st.running T) st.waiting) S st.running.ports r l
-    go false = refl
+bytes_past_stay st T S r l = grind (arith, written_past)

@@ -15,11 +15,15 @@ use Rattle.flows.specs.Flows.{IsFlow, cells_of}
 use Rattle.tables.specs.Accepted.{entry, times}
 use Rattle.forwarding.specs.declared.Running.{Running}
 use Rattle.forwarding.specs.Forwarding.{waiting_of}
-use Rattle.forwarding.specs.Histories.{State, Call, a_fresh_start, an_offer, a_slot, running_at, answer_of, carried_out, step, total, sent_by, slot_by, fresh_start_by}
+use Rattle.forwarding.specs.Histories.{State, Call, an_offer, a_slot, running_at, answer_of, carried_out, step, total, sent_by, slot_by, fresh_start_by}
 use Rattle.forwarding.specs.Shares.{LentOnly, Window, UpperShare, LowerShare}
-use Rattle.forwarding.proofs.Done.{Done, Refused, done_or, slot_done, step_done, step_refused}
+use Rattle.forwarding.proofs.Done.{Done, Refused, slot_done, step_done}
 use Rattle.forwarding.proofs.Rotation.{met, rotation}
-use Rattle.forwarding.proofs.Keeping.{named, nothing, slot_sends, step_known, kept}
+use Rattle.forwarding.proofs.Keeping.{named, slot_sends, step_known, kept}
+
+-- the calls after the first are lent the table too
+pub lent_after : (T : List ℕ) (c : Call) (h : List Call) → LentOnly T (c ∷ h) → LentOnly T h
+lent_after T c h lent = grind arith
 
 module _ (k : ℕ) (T : List ℕ) where
   -- how often flow k is named in a column, and over that many slots in a row
@@ -39,43 +43,20 @@ module _ (k : ℕ) (T : List ℕ) where
   met_in st n = met (column st.running) st.running.frame st.running.position n
 
   after_refused : (st : State) (c : Call) (h : List Call) → Refused st c → Share (step st c) h → Share st (c ∷ h)
-  unfolding total
-  after_refused st c h d later =
-      let same = step_refused st c refl d in
-      let rest = subst (λ (s : State). Share s h) same later in
-      let none = nothing k st c d in
-      let slots : slot_by st c + total slot_by (step st c) h ≡ total slot_by st h = omega (arith, ap (λ (s : State). total slot_by s h) same) in
-      let cells = ap (λ (s : State). total (sent_by k) s h) same in
-      let meets = ap (λ (n : ℕ). met_in st n) slots in
-      record {
-        at_most = omega (arith, rest.at_most);
-        at_least = omega (arith, rest.at_least);
-        placed = λ l. rest.placed (omega arith);
-      }
+  unfolding total step
+  after_refused st c h d later = grind arith
 
   after_offer : (st : State) (j n : ℕ) (h : List Call) → Within 1 (length st.waiting) k → Done st (an_offer j n)
       → Share (step st (an_offer j n)) h → Share st (an_offer j n ∷ h)
-  unfolding total
-  after_offer st j n h known e later =
-      let c = an_offer j n in
-      let after = step_done st c refl e in
-      let rest = subst (λ (s : State). Share s h) after later in
-      let slots : slot_by st c + total slot_by (step st c) h ≡ total slot_by (carried_out st c) h = omega (arith, ap (λ (s : State). total slot_by s h) after) in
-      let cells = ap (λ (s : State). total (sent_by k) s h) after in
-      let meets = ap (λ (m : ℕ). met_in st m) slots in
-      let waits = ap (λ (s : State). waiting_of s.waiting k) after in
-      record {
-        at_most = omega (arith, rest.at_most);
-        at_least = omega (arith, rest.at_least, kept k st known c refl);
-        placed = λ l. rest.placed (omega arith);
-      }
+  unfolding total step
+  after_offer st j n h known e later = grind (arith, kept k st known (an_offer j n))
 
   after_slot : (st : State) (n : ℕ) (h : List Call) → Within 1 (length st.waiting) k → Done st (a_slot T n)
       → Share (step st (a_slot T n)) h → Share st (a_slot T n ∷ h)
   unfolding total met
   after_slot st n h known e later =
       let c = a_slot T n in
-      let after = step_done st c refl e in
+      let after = step_done st c e in
       let rest = subst (λ (s : State). Share s h) after later in
       let slots : slot_by st c + total slot_by (step st c) h ≡ suc (total slot_by (carried_out st c) h) =
       omega (arith, ap (λ (s : State). total slot_by s h) after, ap one (eq-eqb (answer_of st c).number DONE e)) in
@@ -85,23 +66,18 @@ module _ (k : ℕ) (T : List ℕ) where
       record {
         at_most = omega (arith, rest.at_most, slot_sends k st T n known e);
         at_least = omega (arith, rest.at_least, slot_sends k st T n known e, kept k st known c refl);
-        placed = λ l. (slot_done st.running T st.waiting n refl e).asked.placed;
+        placed = λ l. (slot_done st.running T st.waiting n e).asked.placed;
       }
+
+  -- one call more, whichever it is
+  shared : (st : State) (c : Call) (h : List Call) → Within 1 (length st.waiting) k → LentOnly T (c ∷ h) → fresh_start_by st c ≡ 0 → Share (step st c) h → Share st (c ∷ h)
+  shared st c h known lent none later = grind (arith, after_refused st c h, after_offer st, after_slot st)
 
   share : (st : State) (h : List Call) → Within 1 (length st.waiting) k → LentOnly T h → total fresh_start_by st h ≡ 0 → Share st h
   unfolding total met
   share st [] known lent none = record { at_most = omega arith; at_least = omega arith; placed = λ l. absurd (omega arith) }
   share st (c ∷ h) known lent none =
-      go c (done_or st c) lent none (λ l. share (step st c) h (step_known k st c known) l (omega arith))
-    where
-      go : (c : Call) → Dec (Done st c) → LentOnly T (c ∷ h) → total fresh_start_by st (c ∷ h) ≡ 0 → (LentOnly T h → Share (step st c) h) → Share st (c ∷ h)
-      go (a_fresh_start M N) (no d) lent none later = after_refused st (a_fresh_start M N) h d (later lent)
-      go (a_fresh_start M N) (yes e) lent none later = absurd (omega (arith, ap one (eq-eqb (answer_of st (a_fresh_start M N)).number DONE e)))
-      go (an_offer j n) (no d) lent none later = after_refused st (an_offer j n) h d (later lent)
-      go (an_offer j n) (yes e) lent none later = after_offer st j n h known e (later lent)
-      go (a_slot U n) (no d) lent none later = after_refused st (a_slot U n) h d (later lent.1)
-      go (a_slot U n) (yes e) lent none later =
-          subst (λ (X : List ℕ). Done st (a_slot X n) → Share (step st (a_slot X n)) h → Share st (a_slot X n ∷ h)) (sym lent.0) (after_slot st n h known) e (later lent.1)
+      shared st c h known lent (omega arith) (share (step st c) h (step_known k st c known) (lent_after T c h lent) (omega arith))
 
 -- over a whole frame the columns name the flow as often as the table does
 whole_frame : (k : ℕ) (T : List ℕ) (r : Running) → r.position < r.frame → met (column k T r) r.frame r.position r.frame ≡ times r.frame r.ports T k

@@ -5,7 +5,7 @@ use Rattle.answers.specs.Answers.{is_done}
 use Rattle.answers.specs.Sums.{sum, one}
 use Rattle.answers.specs.Buffers.{written}
 use Rattle.forwarding.specs.declared.Running.{Running}
-use Rattle.forwarding.specs.declared.Outcome.{Outcome}
+use Rattle.forwarding.specs.Outcome.{Outcome}
 use Rattle.forwarding.specs.Forwarding.{fresh_start_answer, offer_answer, slot_answer, entries_now, added, served, output_byte, next_position}
 
 -- what the calls are about: the running record and the waiting counts

@@ -1,4 +1,5 @@
 pub mod Forwarding
+pub mod Outcome
 pub mod Histories
 pub mod SentBuffer
 pub mod Promises

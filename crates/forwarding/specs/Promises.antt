@@ -3,13 +3,9 @@
 use Rattle.std.specs.Prelude.{ℕ, ◌≡◌, List, length}
 use Rattle.answers.specs.declared.Answer.{Answer}
 use Rattle.forwarding.specs.declared.Running.{Running}
-use Rattle.forwarding.specs.declared.Outcome.{Outcome}
+use Rattle.forwarding.specs.Outcome.{Outcome}
 use Rattle.forwarding.specs.Forwarding.{offer_answer}
 use Rattle.forwarding.specs.Histories.{state_of, a_fresh_start, an_offer, a_slot, step, outcome_of, sent_after}
-
--- an answer, and the record after the call
-abbrev pub outcome : Answer → Running → Outcome
-outcome a r = record { answer = a; running = r }
 
 -- a fresh start at frame M and ports N
 pub record FreshStarted (r : Running) (M N : ℕ) (W : List ℕ) (o : Outcome) (W' : List ℕ) : Type 0 where

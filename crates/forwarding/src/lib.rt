@@ -1,247 +1,216 @@
-// The forwarding core: a fresh start, offers and slots. The record goes in and comes back by value; the waiting counts and
-// the sent buffer are lent. A refusal changes nothing.
+// The forwarding core: a fresh start, offers and slots. The record goes in by value, and the one after the call comes back where it is
+// done; the waiting counts and the sent buffer are lent. A refusal changes nothing.
 #![tactic(auto)]
 
-ghost use Rattle.std.specs.Prelude.{◌+◌, ◌≤◌, ◌<◌, ◌≡◌, length, replicate};
-ghost use Rattle.answers.specs.Limits.{max_detail};
-ghost use Rattle.answers.specs.Lowest.{lowest};
+ghost use Rattle.std.specs.Prelude.{◌≤◌, ◌<◌, ◌≡◌, cond, length, pos, IfOk};
+ghost use Rattle.answers.specs.Answers.{answer_of, plain_answer};
+ghost use Rattle.answers.specs.Lowest.{found};
 ghost use Rattle.answers.specs.Buffers.{written};
 ghost use Rattle.tables.specs.Check.{Holds};
-ghost use Rattle.forwarding.specs.Forwarding.{fresh_start_answer, offer_answer, entries_now, place_now, above_counts, slot_size_answer, slot_answer, sent_byte, taken, served, output_byte};
+ghost use Rattle.forwarding.specs.Forwarding.{fresh_start_answer, offer_answer, entries_now, place_now, above_counts, slot_answer, sends, taken, served, output_byte};
 ghost use Rattle.forwarding.specs.Histories.{advanced};
 ghost use Rattle.forwarding.specs.AboveCounts.{AllCounted};
+ghost use Rattle.forwarding.specs.Outcome.{handed};
 ghost use Rattle.forwarding.specs.Promises.{FreshStarted, Offered, SlotServed};
 
-use answers::{Answer, naming, outside, refusal};
-use tables::check::entry_at;
+use answers::{MAX_FLOWS, MAX_FRAME, MAX_PORTS, MAX_WAITING, Refusal, first_where, outside};
 
 pub mod record;
 
 // The running record: the frame and the ports that a fresh start took, and the position of the next slot.
 #[repr(C)]
-#[derive(Clone, Copy)]
+#[derive(Clone, Copy, Debug, PartialEq, Eq)]
 pub struct Running {
     pub frame: usize,
     pub ports: usize,
     pub position: usize,
 }
 
-// What a call hands back: its answer, and the record after it.
+// The entries of a table at the record's position, one an output: the table has a row for each port, and the position is a slot of the frame.
 #[derive(Clone, Copy)]
-pub struct Outcome {
-    pub answer: Answer,
-    pub running: Running,
+struct Column<'a> {
+    running: Running,
+    table: &'a [u8],
+    ghost whole: { Holds running.frame running.ports table.now },
+    ghost placed: { running.position < running.frame },
 }
 
-// What a fresh start answers.
-fn fresh_start_answer(frame: usize, ports: usize, waiting: &[u16]) -> Answer
-    ensures { result ≡ fresh_start_answer frame ports waiting.now }
-{
-    if outside(1, answers::MAX_FRAME, frame) {
-        return refusal(answers::FRAME_OUT_OF_RANGE);
-    }
-    if outside(1, answers::MAX_PORTS, ports) {
-        return refusal(answers::PORTS_OUT_OF_RANGE);
-    }
-    if answers::MAX_FLOWS < waiting.len() {
-        return refusal(answers::COUNTS_OR_SENT_MISSIZED);
-    }
-    refusal(answers::DONE)
-}
-
-// Waiting and offered cells together, which can pass 16 bits.
-fn together(waiting: u16, n: u16) -> usize
-    ensures { result ≡ waiting + n }
-{
-    waiting as usize + n as usize
-}
-
-// What an offer answers.
-fn offer_answer(waiting: &[u16], flow: usize, n: u16) -> Answer
-    ensures { result ≡ offer_answer waiting.now flow n }
-{
-    if answers::MAX_FLOWS < waiting.len() {
-        return refusal(answers::COUNTS_OR_SENT_MISSIZED);
-    }
-    if outside(1, waiting.len(), flow) {
-        return refusal(answers::FLOW_UNKNOWN);
-    }
-    let at = flow - 1;
-    if answers::MAX_WAITING < together(waiting[at], n) {
-        return refusal(answers::WAITING_FULL);
-    }
-    refusal(answers::DONE)
-}
-
-// Where the entry of output j + 1 at the record's position stands in the table.
-fn place_now(running: Running, j: usize) -> usize
-    requires { place_now running j < max_detail }
-    ensures { result ≡ place_now running j }
-{
-    j * running.frame + running.position
-}
-
-// The lowest output, from 0, of which refusal 28 tells, or the number of ports. Only entries at the record's position are looked at.
-fn first_above_counts(running: Running, table: &[u8], counts: usize) -> usize
-    requires whole { Holds running.frame running.ports table.now }
-    requires placed { running.position < running.frame }
-    ensures { result ≡ lowest 0 running.ports (above_counts running table.now counts) }
-{
-    let mut j = 0;
-    while j < running.ports {
-        if counts < entry_at(running.frame, table, j, running.position) {
-            return j;
+impl Running {
+    // A slot's refusals, in their order; where none is due, the column that the slot serves.
+    #[tactic(auto, unfolding(crate::specs::Forwarding::slot_answer))]
+    fn judge_slot<'a>(
+        self,
+        table: &'a [u8],
+        waiting: &[u16],
+        sent_length: usize,
+    ) -> Result<Column<'a>, Refusal>
+        ensures answer { answer_of (λ _. pos 0) result ≡ slot_answer self table.now waiting.now sent_length }
+        ensures column { IfOk result (λ c. (c.running ≡ self) × (c.table.now ≡ table.now)) }
+    {
+        if outside(1, MAX_FRAME, self.frame) {
+            return Err(Refusal::FrameOutOfRange);
         }
-        j += 1;
+        if outside(1, MAX_PORTS, self.ports) {
+            return Err(Refusal::PortsOutOfRange);
+        }
+        if table.len() < self.ports * self.frame {
+            return Err(Refusal::TableTooShort);
+        }
+        if MAX_FLOWS < waiting.len() || sent_length < self.ports {
+            return Err(Refusal::CountsOrSentMissized);
+        }
+        if self.frame <= self.position {
+            return Err(Refusal::PositionPastFrame);
+        }
+        let column = Column {
+            running: self,
+            table,
+        };
+        if let Some(j) = column.first_above_counts(waiting.len()) {
+            return Err(Refusal::EntryAboveCounts(column.place(j) as u16));
+        }
+        Ok(column)
     }
-    j
-}
 
-// What a slot answers before it looks at an entry.
-fn slot_size_answer(running: Running, table: &[u8], waiting: &[u16], sent_length: usize) -> Answer
-    ensures { result ≡ slot_size_answer running table.now waiting.now sent_length }
-{
-    if outside(1, answers::MAX_FRAME, running.frame) {
-        return refusal(answers::FRAME_OUT_OF_RANGE);
-    }
-    if outside(1, answers::MAX_PORTS, running.ports) {
-        return refusal(answers::PORTS_OUT_OF_RANGE);
-    }
-    if table.len() < running.ports * running.frame {
-        return refusal(answers::TABLE_TOO_SHORT);
-    }
-    if answers::MAX_FLOWS < waiting.len() {
-        return refusal(answers::COUNTS_OR_SENT_MISSIZED);
-    }
-    if sent_length < running.ports {
-        return refusal(answers::COUNTS_OR_SENT_MISSIZED);
-    }
-    if running.frame <= running.position {
-        return refusal(answers::POSITION_PAST_FRAME);
-    }
-    refusal(answers::DONE)
-}
-
-// What a slot answers.
-fn slot_answer(running: Running, table: &[u8], waiting: &[u16], sent_length: usize) -> Answer
-    ensures { result ≡ slot_answer running table.now waiting.now sent_length }
-{
-    let sized = slot_size_answer(running, table, waiting, sent_length);
-    if sized.number != answers::DONE {
-        return sized;
-    }
-    let j = first_above_counts(running, table, waiting.len());
-    if j < running.ports {
-        return naming(answers::ENTRY_ABOVE_COUNTS, place_now(running, j));
-    }
-    sized
-}
-
-// Sets every waiting count to 0.
-fn clear(waiting: &mut [u16])
-    ensures { waiting.new ≡ replicate (length waiting.old) 0 }
-{
-    let mut i = 0;
-    while i < waiting.len() {
-        waiting[i] = 0;
-        i += 1;
+    // The record after a slot: the position goes up by one, from the frame's last slot to 0.
+    fn advanced(self) -> Self
+        requires { self.position < self.frame }
+        ensures { result ≡ advanced self }
+    {
+        let next = self.position + 1;
+        Running {
+            position: if next == self.frame { 0 } else { next },
+            ..self
+        }
     }
 }
 
-// Takes one waiting cell of the entry's flow, if the entry is a flow and a cell waits; the output's byte comes back.
+impl Column<'_> {
+    // Where the entry of output j + 1 stands in the table.
+    fn place(&self, j: usize) -> usize
+        requires { j < self.now.running.ports }
+        ensures { result ≡ place_now self.now.running j }
+    {
+        j * self.running.frame + self.running.position
+    }
+
+    // The entry of output j + 1.
+    fn entry(&self, j: usize) -> u8
+        requires { j < self.now.running.ports }
+        ensures { result ≡ entries_now self.now.running self.now.table.now j }
+    {
+        self.table[self.place(j)]
+    }
+
+    // The lowest output, from 0, of which refusal 28 tells. Only the column's entries are looked at.
+    fn first_above_counts(&self, counts: usize) -> Option<usize>
+        ensures { result ≡ found 0 self.now.running.ports (above_counts self.now.running self.now.table.now counts) }
+    {
+        first_where(0..self.running.ports, |j| {
+            counts < usize::from(self.entry(j))
+        })
+    }
+
+    // Serves the outputs in order, each by its entry.
+    #[tactic(auto, unfolding(crate::specs::Forwarding::served, answers::specs::Buffers::written))]
+    fn serve(&self, waiting: &mut [u16], sent: &mut [u8])
+        requires counted { AllCounted self.now.running self.now.table.now waiting.old }
+        requires room { self.now.running.ports ≤ length sent.old }
+        ensures counts { waiting.new ≡ served self.now.running.ports (entries_now self.now.running self.now.table.now) waiting.old }
+        ensures bytes { sent.new ≡ written self.now.running.ports (output_byte (entries_now self.now.running self.now.table.now) waiting.old) sent.old }
+    {
+        for j in 0..self.running.ports {
+            sent[j] = send_cell(waiting, self.entry(j)).unwrap_or(0);
+        }
+    }
+}
+
+// Takes one waiting cell of the entry's flow, if the entry is a flow and a cell waits, and hands that flow back.
 // An entry without a count does not come here: the slot was refused.
-fn send_cell(waiting: &mut [u16], entry: u8) -> u8
+fn send_cell(waiting: &mut [u16], entry: u8) -> Option<u8>
     requires { entry ≤ length waiting.old }
-    ensures byte { result ≡ sent_byte waiting.old entry }
+    ensures sent { result ≡ cond (sends waiting.old entry) (Some entry) None }
     ensures left { waiting.new ≡ taken waiting.old entry }
 {
-    if entry == 0 {
-        return 0;
-    }
-    let at = entry as usize - 1;
-    let cells = waiting[at];
-    if cells == 0 {
-        return 0;
-    }
-    waiting[at] = cells - 1;
-    entry
+    let at = usize::from(entry).checked_sub(1)?;
+    waiting[at] = waiting[at].checked_sub(1)?;
+    Some(entry)
 }
 
-// Serves the outputs in order, each by its entry at the record's position.
-fn serve(running: Running, table: &[u8], waiting: &mut [u16], sent: &mut [u8])
-    requires whole { Holds running.frame running.ports table.now }
-    requires placed { running.position < running.frame }
-    requires counted { AllCounted running table.now waiting.old }
-    requires room { running.ports ≤ length sent.old }
-    ensures counts { waiting.new ≡ served running.ports (entries_now running table.now) waiting.old }
-    ensures bytes { sent.new ≡ written running.ports (output_byte (entries_now running table.now) waiting.old) sent.old }
+// A fresh start's refusals, in their order.
+#[tactic(auto, unfolding(crate::specs::Forwarding::fresh_start_answer))]
+fn judge_fresh_start(frame: usize, ports: usize, waiting: &[u16]) -> Result<(), Refusal>
+    ensures { plain_answer result ≡ fresh_start_answer frame ports waiting.now }
 {
-    let mut j = 0;
-    while j < running.ports {
-        sent[j] = send_cell(waiting, table[place_now(running, j)]);
-        j += 1;
+    if outside(1, MAX_FRAME, frame) {
+        return Err(Refusal::FrameOutOfRange);
     }
+    if outside(1, MAX_PORTS, ports) {
+        return Err(Refusal::PortsOutOfRange);
+    }
+    if MAX_FLOWS < waiting.len() {
+        return Err(Refusal::CountsOrSentMissized);
+    }
+    Ok(())
 }
 
-// The record after a slot: the position goes up by one, from the frame's last slot to 0.
-fn advance(running: Running) -> Running
-    requires { running.position < running.frame }
-    ensures { result ≡ advanced running }
+// An offer's refusals, in their order. Waiting and offered cells together can pass 16 bits.
+#[tactic(auto, unfolding(crate::specs::Forwarding::offer_answer))]
+fn judge_offer(waiting: &[u16], flow: usize, n: u16) -> Result<(), Refusal>
+    ensures { plain_answer result ≡ offer_answer waiting.now flow n }
 {
-    let mut next = running;
-    next.position = running.position + 1;
-    if next.position == running.frame {
-        next.position = 0;
+    if MAX_FLOWS < waiting.len() {
+        return Err(Refusal::CountsOrSentMissized);
     }
-    next
+    if outside(1, waiting.len(), flow) {
+        return Err(Refusal::FlowUnknown);
+    }
+    if MAX_WAITING < usize::from(waiting[flow - 1]) + usize::from(n) {
+        return Err(Refusal::WaitingFull);
+    }
+    Ok(())
 }
 
-// Takes frame and ports into the record, and sets the position and every waiting count to 0.
-pub fn fresh_start(running: Running, frame: usize, ports: usize, waiting: &mut [u16]) -> Outcome
-    ensures { FreshStarted running frame ports waiting.old result waiting.new }
+// Makes a record of frame and ports at position 0, and sets every waiting count to 0. Where it refuses, the record that was given still stands.
+#[tactic(auto, unfolding(crate::specs::Histories::step, crate::specs::Histories::outcome_of), using(answers::proofs::Outcomes::not_done))]
+pub fn fresh_start(
+    running: Running,
+    frame: usize,
+    ports: usize,
+    waiting: &mut [u16],
+) -> Result<Running, Refusal>
+    ensures { FreshStarted running frame ports waiting.old (handed running result) waiting.new }
 {
-    let answer = fresh_start_answer(frame, ports, waiting);
-    if answer.number != answers::DONE {
-        return Outcome { answer, running };
-    }
-    clear(waiting);
-    Outcome {
-        answer,
-        running: Running {
-            frame,
-            ports,
-            position: 0,
-        },
-    }
+    judge_fresh_start(frame, ports, waiting)?;
+    waiting.fill(0);
+    Ok(Running {
+        frame,
+        ports,
+        position: 0,
+    })
 }
 
 // Adds n cells to one flow's waiting count: all or none. The record is not looked at.
-pub fn offer(waiting: &mut [u16], flow: usize, n: u16) -> Answer
-    ensures { Offered waiting.old flow n result waiting.new }
+#[tactic(auto, unfolding(crate::specs::Histories::step, crate::specs::Forwarding::offer_answer), using(answers::proofs::Outcomes::not_done))]
+pub fn offer(waiting: &mut [u16], flow: usize, n: u16) -> Result<(), Refusal>
+    ensures { Offered waiting.old flow n (plain_answer result) waiting.new }
 {
-    let offered = offer_answer(waiting, flow, n);
-    if offered.number != answers::DONE {
-        return offered;
-    }
-    let at = flow - 1;
-    waiting[at] = waiting[at] + n;
-    offered
+    judge_offer(waiting, flow, n)?;
+    waiting[flow - 1] += n;
+    Ok(())
 }
 
 // Serves one slot: each output sends the cell of its entry at the position, if one waits, and the position goes on.
-pub fn slot(running: Running, table: &[u8], waiting: &mut [u16], sent: &mut [u8]) -> Outcome
-    ensures { SlotServed running table.now waiting.old sent.old result waiting.new sent.new }
+#[tactic(auto, unfolding(crate::specs::Histories::step, crate::specs::Histories::outcome_of, crate::specs::Histories::sent_after), using(answers::proofs::Outcomes::not_done, crate::proofs::Done::slot_done))]
+pub fn slot(
+    running: Running,
+    table: &[u8],
+    waiting: &mut [u16],
+    sent: &mut [u8],
+) -> Result<Running, Refusal>
+    ensures { SlotServed running table.now waiting.old sent.old (handed running result) waiting.new sent.new }
 {
-    let judged = slot_answer(running, table, waiting, sent.len());
-    if judged.number != answers::DONE {
-        return Outcome {
-            answer: judged,
-            running,
-        };
-    }
-    serve(running, table, waiting, sent);
-    Outcome {
-        answer: judged,
-        running: advance(running),
-    }
+    let column = running.judge_slot(table, waiting, sent.len())?;
+    column.serve(waiting, sent);
+    Ok(running.advanced())
 }

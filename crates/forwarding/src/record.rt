@@ -1,8 +1,11 @@
-// The running record lent and changed in place: each function hands the record to the core by value, and stores what comes back.
-ghost use Rattle.forwarding.specs.Promises.{outcome, FreshStarted, SlotServed};
+// The running record lent and changed in place: each function hands the record to the core by value, and stores what comes back. A refusal leaves it as it was.
+// The rules' functions have both forms (docs/PROMISES.md names them), so both stand.
+ghost use Rattle.answers.specs.Answers.{plain_answer};
+ghost use Rattle.forwarding.specs.Outcome.{outcome};
+ghost use Rattle.forwarding.specs.Promises.{FreshStarted, SlotServed};
 
 use crate::Running;
-use answers::Answer;
+use answers::Refusal;
 
 // A fresh start of the lent record.
 pub fn fresh_start_in(
@@ -10,19 +13,22 @@ pub fn fresh_start_in(
     frame: usize,
     ports: usize,
     waiting: &mut [u16],
-) -> Answer
-    ensures { FreshStarted running.old frame ports waiting.old (outcome result running.new) waiting.new }
+) -> Result<(), Refusal>
+    ensures { FreshStarted running.old frame ports waiting.old (outcome (plain_answer result) running.new) waiting.new }
 {
-    let after = crate::fresh_start(*running, frame, ports, waiting);
-    *running = after.running;
-    after.answer
+    *running = crate::fresh_start(*running, frame, ports, waiting)?;
+    Ok(())
 }
 
 // A slot of the lent record.
-pub fn slot_in(running: &mut Running, table: &[u8], waiting: &mut [u16], sent: &mut [u8]) -> Answer
-    ensures { SlotServed running.old table.now waiting.old sent.old (outcome result running.new) waiting.new sent.new }
+pub fn slot_in(
+    running: &mut Running,
+    table: &[u8],
+    waiting: &mut [u16],
+    sent: &mut [u8],
+) -> Result<(), Refusal>
+    ensures { SlotServed running.old table.now waiting.old sent.old (outcome (plain_answer result) running.new) waiting.new sent.new }
 {
-    let after = crate::slot(*running, table, waiting, sent);
-    *running = after.running;
-    after.answer
+    *running = crate::slot(*running, table, waiting, sent)?;
+    Ok(())
 }
