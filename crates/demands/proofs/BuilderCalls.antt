@@ -5,6 +5,7 @@ use mathlib.Core.Logic.{◌⊎◌, inl, inr}
 use lib.ListN.{length}
 use Rattle.answers.specs.declared.Answer.{Answer}
 use Rattle.answers.specs.Numbers.{INPUT_OVERLOADED, OUTPUT_OVERLOADED}
+use Rattle.answers.specs.Answers.{plain_answer}
 use Rattle.builder.specs.Build.{build_answer}
 use Rattle.demands.specs.BuilderCalls.{BuildsIfOneExistsOfContract, DoneLeavesAccepted, RefusesLoadIfNoneExistsOfContract}
 use Rattle.demands.specs.BuilderCalls.{NamesInputOfContract, NamesOutputOfContract}
@@ -26,11 +27,13 @@ names_output_of_contract κ x a l c j = exactly c.answered (Builder.names_output
 pub refuses_load_if_none_exists_of_contract : RefusesLoadIfNoneExistsOfContract
 refuses_load_if_none_exists_of_contract κ x a l c over table = Builder.refuses_load_if_none_exists _ _ _ _ (carried over) table
   where
-    same : (n : ℕ) → a.number ≡ n → (build_answer x.0 x.1.0 x.1.1.0.now (length x.1.1.1.0.now)).number ≡ n
+    built : Answer
+    built = build_answer x.0.now.frame x.0.now.ports x.0.now.list.now (length x.1.0.now)
+
+    same : (n : ℕ) → (plain_answer a).number ≡ n → built.number ≡ n
     same n e = sym (ap (λ (b : Answer). b.number) c.answered) ∙ e
 
-    carried : (a.number ≡ INPUT_OVERLOADED) ⊎ (a.number ≡ OUTPUT_OVERLOADED)
-        → ((build_answer x.0 x.1.0 x.1.1.0.now (length x.1.1.1.0.now)).number ≡ INPUT_OVERLOADED)
-        ⊎ ((build_answer x.0 x.1.0 x.1.1.0.now (length x.1.1.1.0.now)).number ≡ OUTPUT_OVERLOADED)
+    carried : ((plain_answer a).number ≡ INPUT_OVERLOADED) ⊎ ((plain_answer a).number ≡ OUTPUT_OVERLOADED)
+        → (built.number ≡ INPUT_OVERLOADED) ⊎ (built.number ≡ OUTPUT_OVERLOADED)
     carried (inl e) = inl (same INPUT_OVERLOADED e)
     carried (inr e) = inr (same OUTPUT_OVERLOADED e)

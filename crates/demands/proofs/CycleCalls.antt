@@ -17,7 +17,8 @@ use Rattle.answers.proofs.First.{done_exactly}
 use Rattle.answers.proofs.Lowest.{somewhere_false}
 use Rattle.answers.proofs.Ranges.{inside, within_test, either_false}
 use Rattle.answers.proofs.Buffers.{written_at}
-use Rattle.cycles.specs.Cycle.{Network, network, links, messages, size_of, path_of}
+use Rattle.cycles.specs.Lent.{of_network}
+use Rattle.cycles.specs.Cycle.{Network, links, messages, size_of, path_of}
 use Rattle.cycles.specs.Run.{release_of, response_of}
 use Rattle.cycles.specs.Judging.{message_above_window, network_rules, network_answer, cycle_answer, run_answer}
 use Rattle.cycles.specs.Refusals.{Sized, AboveWindow}
@@ -98,11 +99,11 @@ run_refused w R cycles n a e = subst (λ (b : Answer). Refuses (RunAsked w R cyc
 
 pub cycle_refuses_of_contract : CycleRefusesOfContract
 cycle_refuses_of_contract κ x a l c =
-    cycle_refused (network x.0.now x.1.0.now x.1.1.0.now) x.1.1.1.0.now (length x.1.1.1.1.0.now) (length x.1.1.1.1.1.0.now) a c.answered
+    cycle_refused (of_network x.0) x.1.0.now (length x.1.1.0.now) (length x.1.1.1.0.now) _ c.answered
 
 pub run_refuses_of_contract : RunRefusesOfContract
 run_refuses_of_contract κ x a l c =
-    run_refused (network x.0.now x.1.0.now x.1.1.0.now) x.1.1.1.0.now x.1.1.1.1.0 (length x.1.1.1.1.1.0.now) a c.answered
+    run_refused (of_network x.0) x.1.0.now x.1.1.0 (length x.1.1.1.0.now) _ c.answered
 
 -- what a run that is done leaves in message i's place is its response
 response_left : (w : Network) (R : List ℕ) (cycles : ℕ) (X : List ℕ) (a : Answer) (X' : List ℕ) → RunOver w R cycles X a X' → a.number ≡ DONE
@@ -119,4 +120,4 @@ responses_bounded w R cycles X a X' c z i u long =
     omega (arith, response_left w R cycles X a X' c z i u, Responses.response_bounded w R cycles (length X) i answered u long)
 
 pub responses_left_bounded : ResponsesLeftBounded
-responses_left_bounded κ x a l c = responses_bounded _ _ _ _ a _ c
+responses_left_bounded κ x a l c = responses_bounded _ _ _ _ _ _ c

@@ -6,18 +6,18 @@ use mathlib.Core.Bool.{Bool, true, false, cond, true≢false}
 use mathlib.Core.List.{List, [], ◌∷◌}
 use native.Mathlib.Omega.{arith}
 use native.Mathlib.Nat.{div-add-mod', mod-lt, le-div_iff_mul-le, mul_comm, mul-add, add-mul, suc-mul}
-use borrow.Author.Tests.{ltb-true, ltb-false, eqb-false}
-use lib.Dec.{T, ltb, eqb, le→leb, leb→le, lt→ltb}
+use borrow.Author.Tests.{ltb-true, ltb-false}
+use lib.Dec.{T, ltb, le→leb, leb→le, lt→ltb}
 use lib.ListN.{length, replicate}
 use lib.IntN.{ℤ, pos, negsuc, suc_ℤ, neg_ℤ, ◌-ℤ◌, ◌*ℤ◌}
 use lib.Signed.{◌≤ℤ◌, ◌<ℤ◌, mag}
 use Rattle.answers.specs.declared.Answer.{Answer}
 use Rattle.answers.specs.Numbers.{DONE, FRAME_OUT_OF_RANGE, LINKS_OUT_OF_RANGE, DEADLINE_OUT_OF_RANGE, DELAY_OUT_OF_RANGE}
-use Rattle.answers.specs.Limits.{max_frame, max_links, max_delay, max_deadline, max_bits, outside, Within}
+use Rattle.answers.specs.Limits.{max_frame, max_links, max_delay, max_deadline, outside, Within}
 use Rattle.answers.specs.Lowest.{lowest, IsLowest}
 use Rattle.answers.specs.Sums.{sum}
 use Rattle.answers.specs.Answers.{Rule, answer, refusal, done_with, ◌when◌, first}
-use Rattle.answers.proofs.Ranges.{inside, within_test, either_false}
+use Rattle.answers.proofs.Ranges.{inside, within_test}
 use Rattle.answers.proofs.First.{NoneHolds, lacks, first_none, lacked, named_exactly}
 use Rattle.margins.specs.Margins.{bound, margin_of, room_of, floor_div, fit_of, cells_for, carried_bits, link_out_of_range, margin_rules, fit_rules, cells_rules, margin_answer, fit_answer, cells_answer}
 use Rattle.margins.proofs.Bounds.{bound_at_most, common_bound}
@@ -181,8 +181,8 @@ pub fit_is_least : FitIsLeast
 unfolding fit_answer
 fit_is_least M P C c e =
     record {
-      enough = subst (λ (x : ℕ). C ≤ x * (P / M)) same (least_reaches (P / M) C some cells);
-      no_less = λ b l. lower_fails (P / M) C some cells b (omega (arith, same));
+      enough = subst (λ (x : ℕ). C ≤ x * (P / M)) same (least_reaches (P / M) C some);
+      no_less = λ b l. lower_fails (P / M) C some b (omega (arith, same));
     }
   where
     known : NoneHolds (fit_rules M P C) × (pos (fit_of M P C) ≡ pos c)
@@ -194,15 +194,12 @@ fit_is_least M P C c e =
     some : 0 < P / M
     some = quotient_some P M (inside known.0.0).at_least (inside known.0.1.0).at_least
 
-    cells : 0 < C
-    cells = omega (arith, eqb-false C 0 (either_false (eqb C 0) (ltb M (fit_of M P C)) known.0.1.1.0).0)
-
 pub cells_are_least : CellsAreLeast
 unfolding cells_answer
 cells_are_least bits c e =
     record {
-      enough = subst (λ (x : ℕ). bits ≤ x * carried_bits) same (least_reaches carried_bits bits (omega arith) some);
-      no_less = λ b l. lower_fails carried_bits bits (omega arith) some b (omega (arith, same));
+      enough = subst (λ (x : ℕ). bits ≤ x * carried_bits) same (least_reaches carried_bits bits (omega arith));
+      no_less = λ b l. lower_fails carried_bits bits (omega arith) b (omega (arith, same));
     }
   where
     known : NoneHolds (cells_rules bits) × (pos (cells_for bits) ≡ pos c)
@@ -210,6 +207,3 @@ cells_are_least bits c e =
 
     same : cells_for bits ≡ c
     same = ap mag known.1
-
-    some : 0 < bits
-    some = (inside {low = 1} {high = max_bits} known.0.0).at_least

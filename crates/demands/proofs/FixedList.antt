@@ -20,10 +20,10 @@ use Rattle.tables.specs.Check.{check_rules, check_answer}
 use Rattle.tables.specs.Row.{row_rules, row_answer}
 use Rattle.builder.specs.Build.{build_rules, build_answer}
 use Rattle.forwarding.specs.declared.Running.{Running}
-use Rattle.forwarding.specs.declared.Outcome.{Outcome}
+use Rattle.forwarding.specs.Outcome.{Outcome}
 use Rattle.forwarding.specs.Forwarding.{fresh_start_rules, offer_rules, slot_rules, fresh_start_answer, offer_answer, slot_answer}
 use Rattle.forwarding.specs.Histories.{state_of, a_fresh_start, a_slot, outcome_of}
-use Rattle.plan_text.specs.declared.reading.Plan.{Plan}
+use Rattle.plan_text.specs.Plans.{Plan}
 use Rattle.plan_text.specs.Reading.{list_in}
 use Rattle.plan_text.specs.Form.{text_of_plan}
 use Rattle.plan_text.specs.Plans.{read_rules, write_rules, read_answer, write_answer, read_plan}
@@ -50,28 +50,28 @@ unfolding margin_answer
 margin M D H a e = answer_one_of (0 ∷ margin_order) (margin_rules M D H) (done_with (margin_of M D H)) a tt tt e
 
 pub margin_numbers : MarginNumbers
-margin_numbers κ x a l c = margin _ _ _ a c
+margin_numbers κ x a l c = margin _ _ _ _ c
 
 room : (M d H : ℕ) (a : Answer) → a ≡ room_answer M d H → DoneOr room_order a.number
 unfolding room_answer
 room M d H a e = answer_one_of (0 ∷ room_order) (room_rules M d H) (done_with (room_of M d H)) a tt tt e
 
 pub room_numbers : RoomNumbers
-room_numbers κ x a l c = room _ _ _ a c
+room_numbers κ x a l c = room _ _ _ _ c
 
 fit : (M P C : ℕ) (a : Answer) → a ≡ fit_answer M P C → DoneOr fit_order a.number
 unfolding fit_answer
 fit M P C a e = answer_one_of (0 ∷ fit_order) (fit_rules M P C) (done_with (pos (fit_of M P C))) a tt tt e
 
 pub fit_numbers : FitNumbers
-fit_numbers κ x a l c = fit _ _ _ a c
+fit_numbers κ x a l c = fit _ _ _ _ c
 
 cells : (bits : ℕ) (a : Answer) → a ≡ cells_answer bits → DoneOr cells_order a.number
 unfolding cells_answer
 cells bits a e = answer_one_of (0 ∷ cells_order) (cells_rules bits) (done_with (pos (cells_for bits))) a tt tt e
 
 pub cells_numbers : CellsNumbers
-cells_numbers κ x a l c = cells _ a c
+cells_numbers κ x a l c = cells _ _ c
 
 -- a cycle and a run have the same rules
 network : (w : Network) (other short : Bool) (a : Answer) → a ≡ network_answer w other short → DoneOr cycle_order a.number
@@ -79,38 +79,38 @@ unfolding network_answer
 network w other short a e = answer_one_of (0 ∷ cycle_order) (network_rules w other short) (done_with (pos 0)) a tt tt e
 
 pub cycle_numbers : CycleNumbers
-cycle_numbers κ x a l c = network _ _ _ a c.answered
+cycle_numbers κ x a l c = network _ _ _ _ c.answered
 
 pub run_numbers : RunNumbers
-run_numbers κ x a l c = network _ _ _ a c.answered
+run_numbers κ x a l c = network _ _ _ _ c.answered
 
 trd : (depth nodes sig tm sld : ℕ) (a : Answer) → a ≡ trd_answer depth nodes sig tm sld → DoneOr trd_order a.number
 unfolding trd_answer
 trd depth nodes sig tm sld a e = answer_one_of (0 ∷ trd_order) (trd_rules depth nodes sig tm sld) (done_with (pos (trd_of depth nodes sig tm sld))) a tt tt e
 
 pub trd_numbers : TrdNumbers
-trd_numbers κ x a l c = trd _ _ _ _ _ a c
+trd_numbers κ x a l c = trd _ _ _ _ _ _ c
 
 check : (M N : ℕ) (L T : List ℕ) (a : Answer) → a ≡ check_answer M N L T → DoneOr check_order a.number
 unfolding check_answer
 check M N L T a e = answer_one_of (0 ∷ check_order) (check_rules M N L T) (done_with (pos 0)) a tt tt e
 
 pub check_numbers : CheckNumbers
-check_numbers κ x a l c = check _ _ _ _ a c
+check_numbers κ x a l c = check _ _ _ _ _ c
 
 row : (M N size j : ℕ) (a : Answer) → a ≡ row_answer M N size j → DoneOr row_order a.number
 unfolding row_answer
 row M N size j a e = answer_one_of (0 ∷ row_order) (row_rules M N size j) (done_with (pos 0)) a tt tt e
 
 pub row_numbers : RowNumbers
-row_numbers κ x a l c = row _ _ _ _ a c
+row_numbers κ x a l c = row _ _ _ _ _ c
 
 build : (M N : ℕ) (L : List ℕ) (size : ℕ) (a : Answer) → a ≡ build_answer M N L size → DoneOr build_order a.number
 unfolding build_answer
 build M N L size a e = answer_one_of (0 ∷ build_order) (build_rules M N L size) (done_with (pos 0)) a tt tt e
 
 pub build_numbers : BuildNumbers
-build_numbers κ x a l c = build _ _ _ _ a c.answered
+build_numbers κ x a l c = build _ _ _ _ _ c.answered
 
 fresh_start : (M N : ℕ) (W : List ℕ) (a : Answer) → a ≡ fresh_start_answer M N W → DoneOr fresh_start_order a.number
 unfolding fresh_start_answer
@@ -132,7 +132,7 @@ unfolding offer_answer
 offer W k n a e = answer_one_of (0 ∷ offer_order) (offer_rules W k n) (done_with (pos 0)) a tt tt e
 
 pub offer_numbers : OfferNumbers
-offer_numbers κ x a l c = offer _ _ _ a c.answered
+offer_numbers κ x a l c = offer _ _ _ _ c.answered
 
 slot : (r : Running) (T W : List ℕ) (size : ℕ) (a : Answer) → a ≡ slot_answer r T W size → DoneOr slot_order a.number
 unfolding slot_answer
@@ -155,11 +155,11 @@ read text size p e =
     answer_one_of (0 ∷ read_order) (read_rules text size) (done_with (pos (flow_count (list_in text)))) p.answer tt tt (ap (λ (x : Plan). x.answer) e)
 
 pub read_numbers : ReadNumbers
-read_numbers κ x a l c = read _ _ a c.0
+read_numbers κ x a l c = read _ _ _ c.0
 
 write : (M N : ℕ) (L : List ℕ) (size : ℕ) (a : Answer) → a ≡ write_answer M N L size → DoneOr write_order a.number
 unfolding write_answer
 write M N L size a e = answer_one_of (0 ∷ write_order) (write_rules M N L size) (done_with (pos (length (text_of_plan M N L)))) a tt tt e
 
 pub write_numbers : WriteNumbers
-write_numbers κ x a l c = write _ _ _ _ a c.0
+write_numbers κ x a l c = write _ _ _ _ _ c.0

@@ -5,6 +5,7 @@ pub mod PlanText
 pub mod Switch
 pub mod Cycles
 pub mod Cases
+pub mod Handed
 pub mod OneOutcome
 pub mod Contracts
 pub mod FixedList

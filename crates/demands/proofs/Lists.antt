@@ -21,7 +21,7 @@ use Rattle.flows.specs.Flows.{per_flow, flow_count, input_of, output_of, cells_o
 use Rattle.flows.proofs.Shape.{of_threes, not_too_many}
 use Rattle.tables.specs.Check.{table_rules, check_answer}
 use Rattle.builder.specs.Build.{load_rules, build_answer}
-use Rattle.plan_text.specs.declared.reading.Plan.{Plan}
+use Rattle.plan_text.specs.Plans.{Plan}
 use Rattle.plan_text.specs.Form.{OfForm, text_of_plan}
 use Rattle.plan_text.specs.Reading.{start, lived, is_of_form, frame_in, ports_in, list_in}
 use Rattle.plan_text.specs.Plans.{read_answer, read_plan, write_answer}
@@ -93,19 +93,19 @@ module _ (M N : ℕ) (L : List ℕ) where
 
 pub check_names_out_of_range : CheckNamesOutOfRange
 unfolding check_answer
-check_names_out_of_range κ x a l c k = exactly c (named _ _ _ (table_rules x.0 x.1.0 x.1.1.0.now x.1.1.1.0.now) (done_with (pos 0)) k tt tt)
+check_names_out_of_range κ x a l c k = exactly c (named _ _ _ (table_rules x.0.now.frame x.0.now.ports x.0.now.list.now x.1.0.now) (done_with (pos 0)) k tt tt)
 
 pub build_names_out_of_range : BuildNamesOutOfRange
 unfolding build_answer
 build_names_out_of_range κ x a l c k =
-    exactly c.answered (named _ _ _ (load_rules x.0 x.1.0 x.1.1.0.now (length x.1.1.1.0.now)) (done_with (pos 0)) k tt tt)
+    exactly c.answered (named _ _ _ (load_rules x.0.now.frame x.0.now.ports x.0.now.list.now (length x.1.0.now)) (done_with (pos 0)) k tt tt)
 
 pub write_names_out_of_range : WriteNamesOutOfRange
 unfolding write_answer
 write_names_out_of_range κ x a l c k =
-    let text = text_of_plan x.0 x.1.0 x.1.1.0.now in
+    let text = text_of_plan x.0.now.frame x.0.now.ports x.0.now.list.now in
     exactly c.0
-    (named _ _ _ ((refusal BUFFER_TOO_SMALL when ltb (length x.1.1.1.0.now) (length text)) ∷ []) (done_with (pos (length text))) k tt tt)
+    (named _ _ _ ((refusal BUFFER_TOO_SMALL when ltb (length x.1.0.now) (length text)) ∷ []) (done_with (pos (length text))) k tt tt)
 
 -- in reading, behind 19 and 20
 module _ (text : List ℕ) (room k : ℕ) where

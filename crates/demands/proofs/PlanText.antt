@@ -17,7 +17,7 @@ use Rattle.answers.specs.Limits.{max_text}
 use Rattle.answers.specs.Answers.{Rule, answer, refusal, done_with, ◌when◌, is_done}
 use Rattle.answers.proofs.First.{given_exactly, first_given}
 use Rattle.flows.specs.Flows.{per_flow, flow_count, list_rules, InRange}
-use Rattle.plan_text.specs.declared.reading.Plan.{Plan}
+use Rattle.plan_text.specs.Plans.{Plan}
 use Rattle.plan_text.specs.Digits.{spelled, digits}
 use Rattle.plan_text.specs.Form.{max_number, flow_lines, text_of_plan, OfForm, LongestBeginning}
 use Rattle.plan_text.specs.Reading.{start, lived, is_of_form, frame_in, ports_in, list_in}

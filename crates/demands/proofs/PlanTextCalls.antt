@@ -16,7 +16,7 @@ use Rattle.answers.specs.Answers.{Rule, refusal, done_with, ◌when◌}
 use Rattle.answers.proofs.First.{NoneHolds, done_exactly, none_first, none_later, none_both}
 use Rattle.flows.specs.Flows.{per_flow, flow_count, list_rules, InRange}
 use Rattle.flows.proofs.Shape.{in_range, not_due}
-use Rattle.plan_text.specs.declared.reading.Plan.{Plan}
+use Rattle.plan_text.specs.Plans.{Plan}
 use Rattle.plan_text.specs.Form.{text_of_plan, OfForm}
 use Rattle.plan_text.specs.Reading.{is_of_form, frame_in, ports_in, list_in}
 use Rattle.plan_text.specs.Plans.{read_rules, write_rules, read_answer, read_plan, read_into, write_answer, written_into}
@@ -106,17 +106,17 @@ write_given κ x a l c =
 pub read_then_write_of_contract : ReadThenWriteOfContract
 read_then_write_of_contract κ x p l c z κ' y a m d e f g fits =
     let number = sym (ap (λ (q : Plan). q.answer.number) c.0) ∙ z in
-    let back = PlanText.read_then_write x.0.now x.1.0.now y.1.1.1.0.now number fits in
-    let M : y.0 ≡ frame_read x.0.now x.1.0.now = e ∙ ap (λ (q : Plan). q.frame) c.0 in
-    let N : y.1.0 ≡ ports_read x.0.now x.1.0.now = f ∙ ap (λ (q : Plan). q.ports) c.0 in
-    let L : y.1.1.0.now ≡ list_read x.0.now x.1.0.now = g ∙ (λ i. take (per_flow * mag (c.0 i).answer.detail) (c.1 i)) in (
-      d.0 ∙ (λ i. write_answer (M i) (N i) (L i) (length y.1.1.1.0.now)) ∙ back.0,
-      d.1 ∙ (λ i. written_into (M i) (N i) (L i) y.1.1.1.0.now) ∙ back.1,
+    let back = PlanText.read_then_write x.0.now x.1.0.now y.1.0.now number fits in
+    let M : y.0.now.frame ≡ frame_read x.0.now x.1.0.now = e ∙ ap (λ (q : Plan). q.frame) c.0 in
+    let N : y.0.now.ports ≡ ports_read x.0.now x.1.0.now = f ∙ ap (λ (q : Plan). q.ports) c.0 in
+    let L : y.0.now.list.now ≡ list_read x.0.now x.1.0.now = g ∙ (λ i. take (per_flow * mag (c.0 i).answer.detail) (c.1 i)) in (
+      d.0 ∙ (λ i. write_answer (M i) (N i) (L i) (length y.1.0.now)) ∙ back.0,
+      d.1 ∙ (λ i. written_into (M i) (N i) (L i) y.1.0.now) ∙ back.1,
     )
 
 pub write_then_read_of_contract : WriteThenReadOfContract
 write_then_read_of_contract κ x a l c z κ' y p m d e fits =
     let number = sym (ap (λ (b : Answer). b.number) c.0) ∙ z in
-    let back = PlanText.write_then_read x.0 x.1.0 x.1.1.0.now x.1.1.1.0.now y.1.0.now number fits in
-    let text : y.0.now ≡ text_written x.0 x.1.0 x.1.1.0.now x.1.1.1.0.now = e ∙ (λ i. take (mag (c.0 i).detail) (c.1 i)) in
+    let back = PlanText.write_then_read x.0.now.frame x.0.now.ports x.0.now.list.now x.1.0.now y.1.0.now number fits in
+    let text : y.0.now ≡ text_written x.0.now.frame x.0.now.ports x.0.now.list.now x.1.0.now = e ∙ (λ i. take (mag (c.0 i).detail) (c.1 i)) in
     (d.0 ∙ ap (λ (t : List ℕ). read_plan t (length y.1.0.now)) text ∙ back.0, d.1 ∙ ap (λ (t : List ℕ). read_into t y.1.0.now) text ∙ back.1)

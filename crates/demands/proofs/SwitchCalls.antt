@@ -2,7 +2,7 @@
 use Prim.Native.Nat.{ℕ}
 use mathlib.Core.Path.{◌≡◌, ap}
 use mathlib.Core.List.{List}
-use Rattle.forwarding.specs.declared.Outcome.{Outcome}
+use Rattle.forwarding.specs.Outcome.{Outcome}
 use Rattle.forwarding.specs.Histories.{State, Call, state_of, step, outcome_of}
 use Rattle.forwarding.proofs.WaitingLimit as WaitingLimit
 use Rattle.demands.specs.SwitchCalls.{NeverPastLimit, Steps, FreshStartSteps, OfferSteps, SlotSteps, FreshStartInSteps, SlotInSteps}

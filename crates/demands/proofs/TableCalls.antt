@@ -24,8 +24,10 @@ names_flow_of_contract κ x a l c k = exactly c (Tables.names_flow _ _ _ _ k)
 
 pub bytes_past_ignored : BytesPastIgnored
 bytes_past_ignored κ x a l c κ' y b m d e f g t u same =
-    let alike : check_answer y.0 y.1.0 y.1.1.0.now y.1.1.1.0.now ≡ check_answer x.0 x.1.0 x.1.1.0.now y.1.1.1.0.now =
-    λ i. check_answer (sym e i) (sym f i) (sym g i) y.1.1.1.0.now in
+    let p = x.0.now in
+    let q = y.0.now in
+    let alike : check_answer q.frame q.ports q.list.now y.1.0.now ≡ check_answer p.frame p.ports p.list.now y.1.0.now =
+    λ i. check_answer (sym e i) (sym f i) (sym g i) y.1.0.now in
     c ∙ answered_alike _ _ _ _ _ same t u ∙ sym (d ∙ alike)
 
 pub row_there_iff_done_of_contract : RowThereIffDoneOfContract

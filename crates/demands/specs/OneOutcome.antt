@@ -32,11 +32,11 @@ abbrev pub OneCycle : Type 0
 OneCycle =
     (κ : _) (x : _) (a b : _) (l m : _)
     → cycle.Learnt κ x a l → cycle.Learnt κ x b m
-    → (a ≡ b) × ((l.1.1.1.1.0.now ≡ m.1.1.1.1.0.now) × (l.1.1.1.1.1.0.now ≡ m.1.1.1.1.1.0.now))
+    → (a ≡ b) × ((l.1.1.0.now ≡ m.1.1.0.now) × (l.1.1.1.0.now ≡ m.1.1.1.0.now))
 
 -- of a run, the answer and the responses
 abbrev pub OneRun : Type 0
-OneRun = (κ : _) (x : _) (a b : _) (l m : _) → run.Learnt κ x a l → run.Learnt κ x b m → (a ≡ b) × (l.1.1.1.1.1.0.now ≡ m.1.1.1.1.1.0.now)
+OneRun = (κ : _) (x : _) (a b : _) (l m : _) → run.Learnt κ x a l → run.Learnt κ x b m → (a ≡ b) × (l.1.1.1.0.now ≡ m.1.1.1.0.now)
 
 abbrev pub OneTrd : Type 0
 OneTrd = (κ : _) (x : _) (a b : _) (l m : _) → least-trd.Learnt κ x a l → least-trd.Learnt κ x b m → a ≡ b
@@ -59,4 +59,4 @@ OneRead = (κ : _) (x : _) (a b : _) (l m : _) → read.Learnt κ x a l → read
 
 -- of writing, the answer and the lent text
 abbrev pub OneWrite : Type 0
-OneWrite = (κ : _) (x : _) (a b : _) (l m : _) → write.Learnt κ x a l → write.Learnt κ x b m → (a ≡ b) × (l.1.1.1.0.now ≡ m.1.1.1.0.now)
+OneWrite = (κ : _) (x : _) (a b : _) (l m : _) → write.Learnt κ x a l → write.Learnt κ x b m → (a ≡ b) × (l.1.0.now ≡ m.1.0.now)

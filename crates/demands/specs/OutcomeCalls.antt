@@ -3,6 +3,7 @@
 -- itself (`Calls.antt`). The builder alone has a free choice, which accepted table it leaves; all the rest of its outcomes is one.
 use Rattle.std.specs.Prelude.{◌*◌, ◌≡◌, drop}
 use Rattle.answers.specs.Numbers.{DONE}
+use Rattle.answers.specs.Answers.{plain_answer}
 use Rattle.builder.proofs.build.Reads as build
 use Rattle.forwarding.proofs.fresh_start.Reads as fresh_start
 use Rattle.forwarding.proofs.offer.Reads as offer
@@ -16,8 +17,8 @@ OneBuildOfContract =
     (κ : _) (x : _) (a b : _) (l m : _)
     → build.Learnt κ x a l → build.Learnt κ x b m
     → (a ≡ b)
-    × (((a.number ≡ DONE → ⊥) → l.1.1.1.0.now ≡ m.1.1.1.0.now)
-    × (drop (x.1.0 * x.0) l.1.1.1.0.now ≡ drop (x.1.0 * x.0) m.1.1.1.0.now))
+    × ((((plain_answer a).number ≡ DONE → ⊥) → l.1.0.now ≡ m.1.0.now)
+    × (drop (x.0.now.ports * x.0.now.frame) l.1.0.now ≡ drop (x.0.now.ports * x.0.now.frame) m.1.0.now))
 
 -- of a fresh start, the answer, the record and the counts
 abbrev pub OneFreshStartOfContract : Type 0

@@ -6,7 +6,7 @@ use Rattle.answers.specs.Numbers.{DONE, TEXT_NOT_OF_FORM}
 use Rattle.answers.specs.Limits.{max_text}
 use Rattle.answers.specs.Answers.{answer, done_with}
 use Rattle.flows.specs.Flows.{per_flow, flow_count, InRange}
-use Rattle.plan_text.specs.declared.reading.Plan.{Plan}
+use Rattle.plan_text.specs.Plans.{Plan}
 use Rattle.plan_text.specs.Form.{text_of_plan, OfForm, LongestBeginning}
 use Rattle.plan_text.specs.Reading.{frame_in, ports_in, list_in}
 use Rattle.plan_text.specs.Plans.{over}
