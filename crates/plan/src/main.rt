@@ -8,7 +8,9 @@ ghost use Rattle.std.specs.Io.{ReadsAtMost};
 ghost use Rattle.std.specs.Io.KnownBytes.{Consumes, IsAtEnd};
 ghost use Rattle.answers.specs.Limits.{max_frame, max_ports};
 
-use answers::{DONE, MAX_FRAME, MAX_PORTS, MAX_TEXT};
+use answers::{Answer, MAX_FRAME, MAX_PORTS, MAX_TEXT};
+use plan_text::reading::Heading;
+use plan_text::writer::Writer;
 use std::io;
 use std::io::Read;
 
@@ -18,7 +20,8 @@ const ANSWER_ROOM: usize = 32;
 // Room for the longest line of a row: the key, three digits and a comma for each entry, and the line's end.
 const ROW_ROOM: usize = 4 * MAX_FRAME + 5;
 
-// Reads until the buffer is full or the input ends, and hands back how many bytes it put at the buffer's start.
+// Reads until the buffer is full or the input ends, and hands back how many bytes it put at the buffer's start. A loop over `read`, since
+// `read_exact` and `read_to_end` say little of what was read before the input ended.
 fn read_full<R: Read>(input: &mut R, bytes: &mut [u8]) -> io::Result<usize>
     ensures within { ReadsAtMost result bytes.new }
     ensures read { IfOk result (λ n. Consumes (R.remaining input.old) (R.remaining input.new) (take n bytes.new)) }
@@ -35,37 +38,31 @@ fn read_full<R: Read>(input: &mut R, bytes: &mut [u8]) -> io::Result<usize>
     Ok(done)
 }
 
-// Prints the line of an answer.
-fn print_answer(rt: &impl Print, number: u32, detail: i32) -> io::Result<()> {
+// Prints the line of an answer. It is put by a `Writer`, whose promise says every byte; of what a `Display` writes no promise can.
+fn print_answer(rt: &impl Print, answer: Answer) -> io::Result<()> {
     let mut line = [0u8; ANSWER_ROOM];
-    let n = plan_text::lines::put_answer(&mut line, 0, number, detail);
-    rt.write_all(&line[..n])
+    let mut writer = Writer::new(&mut line);
+    writer.put_answer(answer);
+    rt.write_all(writer.written())
 }
 
 // Prints the line of an output's row.
-fn print_row(
-    rt: &impl Print,
-    frame: usize,
-    ports: usize,
-    table: &[u8],
-    output: usize,
-) -> io::Result<()>
-    requires { frame ≤ max_frame }
+fn print_row(rt: &impl Print, heading: Heading, table: &[u8], output: usize) -> io::Result<()>
+    requires { heading.frame ≤ max_frame }
 {
-    let row = tables::row::row(frame, ports, table, output);
+    let row = tables::row::row(heading.frame, heading.ports, table, output);
     let mut line = [0u8; ROW_ROOM];
-    let n = plan_text::lines::put_row(&mut line, 0, row);
-    rt.write_all(&line[..n])
+    let mut writer = Writer::new(&mut line);
+    writer.put_row(row);
+    rt.write_all(writer.written())
 }
 
 // Prints a line for each output.
-fn print_table(rt: &impl Print, frame: usize, ports: usize, table: &[u8]) -> io::Result<()>
-    requires { (frame ≤ max_frame) × (ports ≤ max_ports) }
+fn print_table(rt: &impl Print, heading: Heading, table: &[u8]) -> io::Result<()>
+    requires { (heading.frame ≤ max_frame) × (heading.ports ≤ max_ports) }
 {
-    let mut output = 1;
-    while output <= ports {
-        print_row(rt, frame, ports, table, output)?;
-        output += 1;
+    for output in 1..heading.ports + 1 {
+        print_row(rt, heading, table, output)?;
     }
     Ok(())
 }
@@ -74,11 +71,10 @@ fn main(rt: HostRuntime) -> io::Result<()> {
     let mut text = [0u8; MAX_TEXT + 1];
     let n = read_full(&mut rt.stdin(), &mut text)?;
     let mut table = [0u8; MAX_PORTS * MAX_FRAME];
-    let reply = respond::respond(&text[..n], &mut table);
-    let answer = reply.answer;
-    print_answer(&rt, answer.number, answer.detail)?;
-    if answer.number == DONE {
-        print_table(&rt, reply.frame, reply.ports, &table)?;
+    let planned = respond::respond(&text[..n], &mut table);
+    print_answer(&rt, planned.map(|_| ()).into())?;
+    if let Ok(heading) = planned {
+        print_table(&rt, heading, &table)?;
     }
     Ok(())
 }
