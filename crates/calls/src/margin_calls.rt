@@ -1,94 +1,49 @@
 // The calls on plain numbers and on lists of delays, each at the edges of its ranges.
-use crate::buffers::words_within;
-use crate::filling::{damage_at_edges, fill_words};
-use crate::line::write_answer;
-use crate::sequence::{
-    BITS, CELLS, DEADLINES, DELAYS, DEPTHS, FRAMES, LINKS, PERIODS, TIMES, edge,
-};
-use answers::MAX_DELAY;
+use crate::buffers::{front, front_mut, word};
+use crate::edges::{BITS, CELLS, DEADLINES, DELAYS, FRAMES, LINKS, PERIODS};
+use crate::sequence::Sequence;
+use answers::{Answer, MAX_DELAY};
 use std::io;
 
 // The longest list of delays that is lent.
 const DELAYS_LENT: usize = 300;
 
-// Fills delays that are in range, and damages them near the front and anywhere.
-fn some_delays(state: u64, delays: &mut [u16], links: usize) -> u64 {
-    let filled = fill_words(state, delays, links, 1, MAX_DELAY);
-    let damaged = damage_at_edges(filled, delays, 3, 12, &DELAYS);
-    damage_at_edges(damaged, delays, 3, DELAYS_LENT, &DELAYS)
-}
-
-// Asks for a margin over the first links of a list.
-fn margin_over(
-    rt: &impl Print,
-    frame: usize,
-    delays: &[u16],
-    links: usize,
-    deadline: usize,
-) -> io::Result<()> {
-    let n = words_within(delays, links);
-    write_answer(
-        rt,
-        b"margin",
-        margins::margin(frame, &delays[..n], deadline),
-    )
-}
-
-// Asks for a margin over links whose delays are mostly in range.
-pub fn margin(rt: &impl Print, state: u64) -> io::Result<u64> {
+// Asks for a margin over links whose delays are in range, but for damage near the front and anywhere.
+pub fn margin(rt: &impl Print, sequence: &mut Sequence) -> io::Result<()> {
     let mut delays = [0u16; DELAYS_LENT];
-    let frame = edge(state, &FRAMES);
-    let links = edge(frame.state, &LINKS);
-    let after = some_delays(links.state, &mut delays, links.value);
-    let deadline = edge(after, &DEADLINES);
-    margin_over(rt, frame.value, &delays, links.value, deadline.value)?;
-    Ok(deadline.state)
+    let frame = sequence.edge(&FRAMES);
+    let links = sequence.edge(&LINKS);
+    front_mut(&mut delays, links).fill_with(|| sequence.one_to(MAX_DELAY) as u16);
+    for places in [12, DELAYS_LENT] {
+        sequence.damage(&mut delays, 3, places, |sequence| {
+            word(sequence.edge(&DELAYS))
+        });
+    }
+    let deadline = sequence.edge(&DEADLINES);
+    let answer = Answer::from(margins::margin(frame, front(&delays, links), deadline));
+    println!(rt; "margin {answer}")
 }
 
 // Asks for a link room.
-pub fn room(rt: &impl Print, state: u64) -> io::Result<u64> {
-    let frame = edge(state, &FRAMES);
-    let delay = edge(frame.state, &DELAYS);
-    let deadline = edge(delay.state, &DEADLINES);
-    write_answer(
-        rt,
-        b"room",
-        margins::room(frame.value, delay.value, deadline.value),
-    )?;
-    Ok(deadline.state)
+pub fn room(rt: &impl Print, sequence: &mut Sequence) -> io::Result<()> {
+    let frame = sequence.edge(&FRAMES);
+    let delay = sequence.edge(&DELAYS);
+    let deadline = sequence.edge(&DEADLINES);
+    let answer = Answer::from(margins::room(frame, delay, deadline));
+    println!(rt; "room {answer}")
 }
 
 // Asks for a period fit.
-pub fn fit(rt: &impl Print, state: u64) -> io::Result<u64> {
-    let frame = edge(state, &FRAMES);
-    let period = edge(frame.state, &PERIODS);
-    let cells = edge(period.state, &CELLS);
-    write_answer(
-        rt,
-        b"fit",
-        margins::fit(frame.value, period.value, cells.value),
-    )?;
-    Ok(cells.state)
+pub fn fit(rt: &impl Print, sequence: &mut Sequence) -> io::Result<()> {
+    let frame = sequence.edge(&FRAMES);
+    let period = sequence.edge(&PERIODS);
+    let cells = sequence.edge(&CELLS);
+    let answer = Answer::from(margins::fit(frame, period, cells));
+    println!(rt; "fit {answer}")
 }
 
 // Asks for the cells of a message.
-pub fn cells(rt: &impl Print, state: u64) -> io::Result<u64> {
-    let bits = edge(state, &BITS);
-    write_answer(rt, b"cells", margins::cells(bits.value))?;
-    Ok(bits.state)
-}
-
-// Asks for a least TRD.
-pub fn trd(rt: &impl Print, state: u64) -> io::Result<u64> {
-    let depth = edge(state, &DEPTHS);
-    let nodes = edge(depth.state, &DEPTHS);
-    let sig = edge(nodes.state, &TIMES);
-    let tm = edge(sig.state, &TIMES);
-    let sld = edge(tm.state, &TIMES);
-    write_answer(
-        rt,
-        b"trd",
-        cycles::least_trd(depth.value, nodes.value, sig.value, tm.value, sld.value),
-    )?;
-    Ok(sld.state)
+pub fn cells(rt: &impl Print, sequence: &mut Sequence) -> io::Result<()> {
+    let answer = Answer::from(margins::cells(sequence.edge(&BITS)));
+    println!(rt; "cells {answer}")
 }

@@ -1,100 +1,104 @@
-// The network of a cycle or of a run: windows, sizes and sets of links, mostly in range, in lists that held only 0.
+// The network of a cycle or of a run: windows, sizes and paths, mostly in range, in lists that held only 0.
 ghost use Rattle.std.specs.Prelude.{◌<◌};
 
-use crate::buffers::{store_set, store_word};
-use crate::filling::{damage_at_edges, fill_words};
-use crate::link_sets::{damage_sets, set_to, whole_set};
-use crate::sequence::{CYCLE_LINKS, MESSAGES, SIZES, edge_or_one_to, one_to, pick_or};
+use crate::buffers::{front, front_mut, word};
+use crate::edges::{CYCLE_LINKS, MESSAGES, SIZES};
+use crate::sequence::Sequence;
+use answers::MAX_CYCLE_LINKS;
+use cycles::Network;
 
 // The lengths of the lists: the most links and messages that are picked.
 pub const LINKS_HELD: usize = 40;
 
 pub const MESSAGES_HELD: usize = 70;
 
-// What making a network hands back: the state after it, and how many links and messages it has.
+// The lists of a network, and how many links and messages it has.
 #[derive(Drop)]
-pub struct Network {
-    pub state: u64,
-    pub links: usize,
+pub struct Held {
+    windows: [u16; LINKS_HELD],
+    sizes: [u16; MESSAGES_HELD],
+    paths: [u32; MESSAGES_HELD],
+    links: usize,
     pub messages: usize,
 }
 
-// How many numbers of each list are lent, and the state after that was picked. The marks are ready bytes or releases.
-#[derive(Drop)]
-pub struct Lent {
-    pub state: u64,
-    pub links: usize,
-    pub messages: usize,
-    pub sets: usize,
-    pub marks: usize,
-}
-
-// Fills one message's size and set.
-fn fill_message(
-    state: u64,
-    sizes: &mut [u16],
-    sets: &mut [u32],
-    message: usize,
-    largest: usize,
-) -> u64
-    requires { 0 < largest }
+// The path over all of the first links, each a bit; that over all that a path can have where there is none, or more than these.
+fn longest_path(links: usize) -> u32
+    ensures { 0 < result }
 {
-    let size = one_to(state, 10);
-    let set = set_to(size.state, largest);
-    store_word(sizes, message, size.value);
-    store_set(sets, message, set.value);
-    set.state
-}
-
-// Fills messages from the first on.
-fn fill_messages(
-    state: u64,
-    sizes: &mut [u16],
-    sets: &mut [u32],
-    messages: usize,
-    largest: usize,
-) -> u64
-    requires { 0 < largest }
-{
-    let mut s = state;
-    let mut message = 0;
-    while message < messages {
-        s = fill_message(s, sizes, sets, message, largest);
-        message += 1;
-    }
-    s
-}
-
-// Makes a network.
-pub fn fill_network(
-    state: u64,
-    windows: &mut [u16],
-    sizes: &mut [u16],
-    sets: &mut [u32],
-) -> Network {
-    let links = edge_or_one_to(state, 8, &CYCLE_LINKS, 6);
-    let messages = edge_or_one_to(links.state, 8, &MESSAGES, 10);
-    let largest = whole_set(links.value);
-    let first = fill_words(messages.state, windows, links.value, 10, 11);
-    let second = fill_messages(first, sizes, sets, messages.value, largest);
-    let third = damage_at_edges(second, windows, 6, 6, &SIZES);
-    let fourth = damage_at_edges(third, sizes, 6, 10, &SIZES);
-    Network {
-        state: damage_sets(fourth, sets),
-        links: links.value,
-        messages: messages.value,
+    if links == 0 || MAX_CYCLE_LINKS < links {
+        u32::MAX
+    } else {
+        u32::MAX >> (MAX_CYCLE_LINKS - links)
     }
 }
 
-// Picks how much of a network's lists is lent: mostly as many sets and marks as messages.
-pub fn lent_of(state: u64, network: Network) -> Lent {
-    let sets = pick_or(state, 12, MESSAGES_HELD + 1, network.messages);
-    let marks = pick_or(sets.state, 12, MESSAGES_HELD + 1, network.messages);
-    Lent {
-        state: marks.state,
-        links: network.links,
-        messages: network.messages,
-        sets: sets.value,
-        marks: marks.value,
+// Any path, also the empty one.
+fn any_path(sequence: &mut Sequence) -> u32 {
+    let low = sequence.pick(65536);
+    let high = sequence.pick(65536);
+    (low + 65536 * high) as u32
+}
+
+// One of the paths from 1 to the longest.
+fn path_to(sequence: &mut Sequence, longest: u32) -> u32
+    requires { 0 < longest }
+{
+    any_path(sequence) % longest + 1
+}
+
+impl Held {
+    // Makes a network: all in range, but for damage.
+    pub fn new(sequence: &mut Sequence) -> Held {
+        let mut held = Held {
+            windows: [0; LINKS_HELD],
+            sizes: [0; MESSAGES_HELD],
+            paths: [0; MESSAGES_HELD],
+            links: sequence.edge_or_one_to(8, &CYCLE_LINKS, 6),
+            messages: sequence.edge_or_one_to(8, &MESSAGES, 10),
+        };
+        held.fill(sequence);
+        held.damage(sequence);
+        held
+    }
+
+    // Fills the windows, then each message's size and path.
+    fn fill(&mut self, sequence: &mut Sequence) {
+        front_mut(&mut self.windows, self.links).fill_with(|| 10 + sequence.pick(11) as u16);
+        let longest = longest_path(self.links);
+        let sizes = front_mut(&mut self.sizes, self.messages);
+        for (size, path) in sizes.iter_mut().zip(&mut self.paths) {
+            *size = sequence.one_to(10) as u16;
+            *path = path_to(sequence, longest);
+        }
+    }
+
+    // Now and then puts a window, a size and a path that need not be in range.
+    fn damage(&mut self, sequence: &mut Sequence) {
+        let any_size = |sequence: &mut Sequence| word(sequence.edge(&SIZES));
+        sequence.damage(&mut self.windows, 6, 6, any_size);
+        sequence.damage(&mut self.sizes, 6, 10, any_size);
+        sequence.damage(&mut self.paths, 6, 10, |sequence| {
+            if sequence.one_in(3) {
+                0
+            } else {
+                any_path(sequence)
+            }
+        });
+    }
+
+    // How many of the numbers that go with messages are lent: mostly one for each.
+    pub fn marks_lent(&self, sequence: &mut Sequence) -> usize {
+        sequence.pick_or(12, MESSAGES_HELD + 1, self.messages)
+    }
+
+    // Lends the first numbers of the lists, with mostly as many paths as messages.
+    pub fn lent(&self, sequence: &mut Sequence) -> Network<'_> {
+        let paths = self.marks_lent(sequence);
+        Network {
+            windows: front(&self.windows, self.links),
+            sizes: front(&self.sizes, self.messages),
+            paths: front(&self.paths, paths),
+        }
     }
 }
