@@ -133,7 +133,7 @@ impl From<Refusal> for Answer {
     }
 }
 
-// What a call gives where it is done, as a detail.
+// What a call gives where it is done, as a detail. A trait of our own, since `()` becomes no number by `Into`.
 pub trait Given {
     ghost detail: { Self → ℤ };
 
@@ -227,7 +227,7 @@ pub fn outside(low: usize, high: usize, x: usize) -> bool
     !(low..=high).contains(&x)
 }
 
-// The lowest number of a range for which the test holds.
+// The lowest number of a range for which the test holds. Its promise is one equation for any test, where those of `find` and `any` speak of an iterator's runs.
 pub fn first_where<F: Fn(usize) -> bool>(range: Range<usize>, test: F) -> Option<usize>
     requires { (i : ℕ) → range.start ≤ i → i < range.end → F.pre test i }
     ensures { (t : ℕ → Bool) → ((i : ℕ) → (b : Bool) → range.start ≤ i → i < range.end → F.post test i b → b ≡ t i) → result ≡ found range.start (range.end - range.start) t }

@@ -1,4 +1,5 @@
 // Makes calls from a fixed sequence of numbers and prints a line for each, so that another program that makes the same calls can be compared.
+// The runtime and the sequence stay two parameters: most choices need no runtime.
 #![tactic(auto)]
 
 mod buffers;

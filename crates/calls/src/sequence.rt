@@ -18,7 +18,7 @@ impl Sequence {
         Sequence { state: FIRST }
     }
 
-    // One of n numbers, from 0 on.
+    // One of n numbers, from 0 on. That there are some is a clause, here and below: the numbers are literals where they are given.
     pub fn pick(&mut self, n: usize) -> usize
         requires { 0 < n }
         ensures { result < n }

@@ -21,7 +21,7 @@ pub struct Switch {
     sent: [u8; SENT],
 }
 
-// A running record, printed as its three numbers with commas between them.
+// A running record, printed as its three numbers with commas between them; the core itself prints nothing.
 #[derive(Drop)]
 struct Record(Running);
 
@@ -76,7 +76,7 @@ impl Switch {
         println!(rt; "offer {answer} {}", digest_of(&self.waiting))
     }
 
-    // The line of a slot.
+    // The line of a slot, which two calls print.
     fn print_slot(
         &self,
         rt: &impl Print,

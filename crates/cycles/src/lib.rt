@@ -22,6 +22,7 @@ pub const STILL_WAITING: u16 = 65535;
 pub const RELEASED_PAST_RUN: u16 = 65534;
 
 // A network as it is lent: the links' windows, and the messages' sizes and sets of links, the highest priority first.
+// Sizes and sets are two lists and not one of messages, since refusal 34 is about their lengths.
 #[derive(Clone, Copy)]
 pub struct Network<'a> {
     pub windows: &'a [u16],
@@ -46,7 +47,7 @@ impl Network<'_> {
 }
 
 // One cycle: takes the ready messages in order, each if on all its links the sizes taken so far leave room for its own. For each
-// message a byte, 1 if it is taken and else 0, and each link's load.
+// message a byte, 1 if it is taken and else 0, since the lists are lent so (inside they are bools), and each link's load.
 pub fn cycle(
     network: Network,
     ready: &[u8],

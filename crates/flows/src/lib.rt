@@ -30,7 +30,7 @@ pub struct Plan<'a> {
 }
 
 impl Plan<'_> {
-    // One of a flow's numbers, and 0 where the list has no such flow.
+    // One of a flow's numbers, and 0 where the list has no such flow, as the definitions of its numbers say.
     fn number_of(&self, flow: usize, which: usize) -> usize
         requires { which < per_flow }
         ensures { result ≡ get_or self.now.list.now (per_flow * (flow - 1) + which) 0 }

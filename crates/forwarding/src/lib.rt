@@ -111,7 +111,7 @@ impl Column<'_> {
         })
     }
 
-    // Serves the outputs in order, each by its entry.
+    // Serves the outputs in order, each by its entry; the byte of one that sends nothing is 0.
     #[tactic(auto, unfolding(crate::specs::Forwarding::served, answers::specs::Buffers::written))]
     fn serve(&self, waiting: &mut [u16], sent: &mut [u8])
         requires counted { AllCounted self.now.running self.now.table.now waiting.old }

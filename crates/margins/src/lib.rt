@@ -115,6 +115,7 @@ pub fn room(frame: usize, delay: usize, deadline: usize) -> Result<i32, Refusal>
     if outside(0, MAX_DEADLINE, deadline) {
         return Err(Refusal::DeadlineOutOfRange);
     }
+    // The one delay stands for all links, and is told as place 0.
     if delay_out_of_range(delay) {
         return Err(Refusal::DelayOutOfRange(0));
     }

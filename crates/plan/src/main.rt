@@ -38,7 +38,8 @@ fn read_full<R: Read>(input: &mut R, bytes: &mut [u8]) -> io::Result<usize>
     Ok(done)
 }
 
-// Prints the line of an answer. It is put by a `Writer`, whose promise says every byte; of what a `Display` writes no promise can.
+// Prints the line of an answer. A `Writer` emits the fixed key, a form asked for, and its promise says every byte; what a `Display` writes reaches
+// a clause only through a `String`.
 fn print_answer(rt: &impl Print, answer: Answer) -> io::Result<()> {
     let mut line = [0u8; ANSWER_ROOM];
     let mut writer = Writer::new(&mut line);
@@ -46,7 +47,7 @@ fn print_answer(rt: &impl Print, answer: Answer) -> io::Result<()> {
     rt.write_all(writer.written())
 }
 
-// Prints the line of an output's row.
+// Prints the line of an output's row, by a `Writer` too.
 fn print_row(rt: &impl Print, heading: Heading, table: &[u8], output: usize) -> io::Result<()>
     requires { heading.frame ≤ max_frame }
 {

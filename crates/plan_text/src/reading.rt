@@ -28,6 +28,7 @@ impl Given for Heading {
 }
 
 // The numbers of a text, in the order of their coming. What does not fit 16 bits is kept as the largest number of them, which is out of every range.
+// By its `Model` it is one list; a `Vec` would be one too, and can fail.
 #[derive(Drop)]
 struct Numbers {
     words: [u16; MAX_TEXT],

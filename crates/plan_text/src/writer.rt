@@ -4,6 +4,7 @@ ghost use Rattle.std.specs.Prelude.{◌≡◌, ◌∷◌, [], ◌+◌, ◌≤◌
 use crate::keys::{COMMA, MINUS};
 
 // A lent buffer into which a line, or a whole text, is put piece by piece; `at` is the place behind the last byte that was put.
+// Room is asked of the caller, so that putting cannot fail, as writing to a `Cursor` can.
 #[derive(Drop)]
 pub struct Writer<'a> {
     pub out: &'a mut [u8],

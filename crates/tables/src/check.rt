@@ -58,7 +58,7 @@ impl Whole<'_> {
         first_where(0..self.places(), |place| self.not_of_row(place))
     }
 
-    // Whether two rows hold flows of one input at a slot.
+    // Whether two rows hold flows of one input at a slot. That the slot is one of the frame's stays a clause: a slot is a plain number.
     fn share_input(&self, slot: usize, a: usize, b: usize) -> bool
         requires { (slot < self.now.plan.frame) × (a < self.now.plan.ports) × (b < self.now.plan.ports) }
         ensures { result ≡ share_input self.now.plan.frame self.now.plan.list.now self.now.table.now slot a b }

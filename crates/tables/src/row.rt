@@ -1,4 +1,4 @@
-// An output's row, as a part of the table that was lent: never a copy.
+// An output's row, as a part of the table that was lent: never a copy. Both are asked for: the part, which cannot fail, and the number beside it.
 ghost use Rattle.std.specs.Prelude.{◌≡◌, ◌+◌, length};
 ghost use Rattle.answers.specs.Answers.{plain_answer};
 ghost use Rattle.tables.specs.Row.{row_answer, row_start, row_part};
