@@ -1,14 +1,24 @@
 -- The laws of a buffer whose first numbers were written: its length stays, what was written stands there, and what lies past it stays.
-use Prim.Native.Nat.{ℕ, zero, suc, ◌≤◌, ◌<◌}
+use Prim.Native.Nat.{ℕ, zero, suc, ◌+◌, ◌≤◌, ◌<◌}
 use mathlib.Core.Path.{◌≡◌, refl, sym, ◌∙◌, ap}
 use mathlib.Core.List.{List}
 use native.Mathlib.Omega.{arith}
 use native.Mathlib.Decide.{ℕ_discrete, dec_lt}
+use native.Mathlib.Numerals.{add-one}
 use lib.ListN.{length, get_or, set, length-set}
 use lib.Seq.{get_or-set_same, get_or-set_other, ext_get_or}
 use Rattle.answers.specs.Buffers.{written}
 
 module _ (f : ℕ → ℕ) (B : List ℕ) where
+  pub written_none : written 0 f B ≡ B
+  unfolding written
+  written_none = refl
+
+  -- one number more, as a loop counts
+  pub written_more : (n : ℕ) (x : ℕ) → x ≡ f n → set (written n f B) n x ≡ written (n + 1) f B
+  unfolding written
+  written_more n x e = rw add-one (ap (λ (y : ℕ). set (written n f B) n y) e)
+
   pub written-length : (n : ℕ) → length (written n f B) ≡ length B
   unfolding written
   written-length zero = refl
@@ -39,3 +49,24 @@ module _ (f : ℕ → ℕ) (B : List ℕ) where
       at : (k : ℕ) → Dec (k < n) → get_or A k 0 ≡ get_or (written n f B) k 0
       at k (yes l) = here k l ∙ sym (written_at n k l room)
       at k (no d) = past k (omega arith) ∙ sym (written_past n k (omega arith))
+
+pub written_agree : (f g : ℕ → ℕ) (B : List ℕ) (n : ℕ) → ((k : ℕ) → k < n → f k ≡ g k) → written n f B ≡ written n g B
+unfolding written
+written_agree f g B zero h = refl
+written_agree f g B (suc n) h =
+    ap (λ (A : List ℕ). set A n (f n)) (written_agree f g B n (λ k l. h k (omega arith)))
+    ∙ ap (λ (x : ℕ). set (written n g B) n x) (h n (omega arith))
+
+-- of numbers that were written over, only the later ones show
+pub written_again : (f g : ℕ → ℕ) (B : List ℕ) (n : ℕ) → n ≤ length B → written n g (written n f B) ≡ written n g B
+written_again f g B n room =
+    written_is g B n (written n g (written n f B)) room (written-length g (written n f B) n ∙ same)
+    (λ k l. written_at g (written n f B) n k l (omega (arith, same)))
+    (λ k l. written_past g (written n f B) n k l ∙ written_past f B n k l)
+  where
+    same : length (written n f B) ≡ length B
+    same = written-length f B n
+
+-- written a second time with the same numbers, it is the same
+pub written_same : (f : ℕ → ℕ) (B A : List ℕ) (n : ℕ) → n ≤ length B → A ≡ written n f B → A ≡ written n f A
+written_same f B A n room e = e ∙ sym (written_again f f B n room) ∙ ap (λ (x : List ℕ). written n f x) (sym e)

@@ -13,7 +13,7 @@ use Rattle.answers.specs.declared.Answer.{Answer}
 use Rattle.answers.specs.Answers.{Rule, answer, done_with, telling_of_lowest, naming_lowest, first}
 use Rattle.answers.specs.Numbers.{DONE}
 use Rattle.answers.specs.Lowest.{lowest, holds_somewhere, IsLowest}
-use Rattle.answers.proofs.Lowest.{lowest_is, lowest_found, somewhere_false, nowhere_test}
+use Rattle.answers.proofs.Lowest.{lowest_is, lowest_found, past_range, somewhere_false, nowhere_test}
 
 -- none of the conditions holds
 abbrev pub NoneHolds : List Rule → Type 0
@@ -86,6 +86,20 @@ given_exactly n earlier r later d e before after last = (back earlier before, λ
 -- a call is done exactly when no condition holds
 pub done_exactly : (n : ℕ) (rs : List Rule) (d : Answer) → d.number ≡ n → T (lacks n rs) → ((first rs d).number ≡ n) ↔ NoneHolds rs
 done_exactly n rs d e t = (λ x. (lacked n rs d t x).0, λ h. ap (λ (a : Answer). a.number) (first_none rs d h) ∙ e)
+
+-- a search that found k tells whether a refusal that names the lowest is given, which number it names, and what is told of it
+module _ (from count : ℕ) (test : ℕ → Bool) (k : ℕ) (e : k ≡ lowest from count test) where
+  pub lowest_told : (n : ℕ) (told : ℕ → ℕ) (rest : Answer) → k < from + count
+      → answer n (pos (told k)) ≡ cond (holds_somewhere from count test) (answer n (pos (told (lowest from count test)))) rest
+  lowest_told n told rest u =
+      ap (λ (x : ℕ). answer n (pos (told x))) e
+      ∙ sym (ap (λ (b : Bool). cond b (answer n (pos (told (lowest from count test)))) rest) (lt-ltb (lowest from count test) (from + count) (omega arith)))
+
+  pub lowest_named : (n : ℕ) (rest : Answer) → k < from + count → answer n (pos k) ≡ cond (holds_somewhere from count test) (answer n (pos (lowest from count test))) rest
+  lowest_named n rest u = lowest_told n (λ x. x) rest u
+
+  pub lowest_passed : (x rest : Answer) → from + count ≤ k → rest ≡ cond (holds_somewhere from count test) x rest
+  lowest_passed x rest u = sym (ap (λ (b : Bool). cond b x rest) (past_range from count test k e u))
 
 -- a call whose order begins with that of another function asks that function first, and passes its refusal on or goes on with the rest
 first_on : (rs : List Rule) (more : List Rule) (d : Answer) → NoneHolds rs → first (rs ++ more) d ≡ first more d

@@ -125,3 +125,30 @@ found_none from count test e = go (holds_somewhere from count test) refl e
     go : (b : Bool) → holds_somewhere from count test ≡ b → None ≡ cond b (Some (lowest from count test)) None → b ≡ false
     go true h p = cc
     go false h p = refl
+
+-- a search that has passed from, from + 1, .. below k without finding the test to hold
+pub record Searched (from count : ℕ) (test : ℕ → Bool) (k : ℕ) : Type 0 where
+  pub low : from ≤ k
+  pub high : k ≤ from + count
+  pub none_lower : Nowhere from k test
+
+pub search_start : (from count : ℕ) (test : ℕ → Bool) → Searched from count test from
+search_start from count test = record { low = omega arith; high = omega arith; none_lower = λ k l u. absurd (omega arith) }
+
+pub search_more : {from count : ℕ} {test : ℕ → Bool} {k : ℕ} → Searched from count test k → k < from + count → test k ≡ false → Searched from count test (k + 1)
+search_more {from} {count} {test} {k} s u e =
+    record { low = omega arith; high = omega arith; none_lower = λ j l w. nowhere_more from k test s.none_lower e j l (omega arith) }
+
+pub search_hit : {from count : ℕ} {test : ℕ → Bool} {k : ℕ} → Searched from count test k → k < from + count → test k ≡ true → k ≡ lowest from count test
+search_hit {from} {count} {test} {k} s u e = sym (lowest_is from count test k s.low u e s.none_lower)
+
+pub search_end : {from count : ℕ} {test : ℕ → Bool} {k : ℕ} → Searched from count test k → from + count ≤ k → k ≡ lowest from count test
+search_end {from} {count} {test} {k} s u =
+    omega (arith, lowest_none from count test (λ j l w. s.none_lower j l (omega arith)))
+
+-- the same searches, where the function only says whether it found one
+pub search_found : {from count : ℕ} {test : ℕ → Bool} {k : ℕ} → Searched from count test k → k < from + count → test k ≡ true → true ≡ holds_somewhere from count test
+search_found {from} {count} {test} {k} s u e = sym (somewhere_test from count test k s.low u e)
+
+pub search_failed : {from count : ℕ} {test : ℕ → Bool} {k : ℕ} → Searched from count test k → from + count ≤ k → false ≡ holds_somewhere from count test
+search_failed {from} {count} {test} {k} s u = sym (nowhere_test from count test (λ j l w. s.none_lower j l (omega arith)))
