@@ -1,4 +1,4 @@
--- Truncating division, with one taken off for a remainder below zero, rounds down.
+-- Signed numbers: how large a difference is, and that truncating division with one taken off for a remainder below zero rounds down.
 use Prim.Native.Nat.{ℕ, zero, suc, ◌+◌, ◌-◌, ◌*◌, ◌/◌, ◌%◌, ◌≤◌, ◌<◌}
 use mathlib.Core.Path.{◌≡◌, refl, sym, ◌∙◌, ap, subst}
 use mathlib.Core.Bool.{Bool, true, false, true≢false}
@@ -6,12 +6,20 @@ use native.Mathlib.Omega.{arith}
 use native.Mathlib.Nat.{div-add-mod', mod-lt, add-zero, div-le_self, zero-mul, suc-mul}
 use borrow.Author.Tests.{ltb-true}
 use lib.Arith.{digits_div}
-use lib.IntN.{ℤ, pos, negsuc, neg_ℤ, ◌-ℤ◌}
+use lib.IntN.{ℤ, pos, negsuc, neg_ℤ, sub_ℕ, ◌-ℤ◌}
 use lib.Signed.{mag, lt_z, quot_z, rem_z, mag_rem}
 use mir.Syntax.{w32}
 use mir.Val.{SFits, to_z, of_z}
 use mir.ValLaws.{sfits_le, to_z-of_z}
 use Rattle.margins.specs.Margins.{floor_div}
+
+mag_sub : (a b : ℕ) → mag (sub_ℕ a b) ≤ a + b
+mag_sub a b = grind arith
+
+-- a difference is no larger than the two numbers together
+pub mag_less : (a b : ℕ) → mag (pos a -ℤ pos b) ≤ a + b
+mag_less a zero = omega arith
+mag_less a (suc b) = mag_sub a (suc b)
 
 -- one less than a number that is not above zero
 minus_one : (q : ℕ) → neg_ℤ (pos q) -ℤ pos 1 ≡ negsuc q

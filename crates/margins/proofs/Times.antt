@@ -35,6 +35,10 @@ least_by_division d n some =
     let up = div_ceil_times n d some in
     is_least d n some (n / d + min 1 (n % d)) up.0 (λ c u. omega (arith, up.1, mul-le-mul_right {m = suc c} {n = n / d + min 1 (n % d)} d (omega arith), suc-mul c d))
 
+pub least_of_none : (d : ℕ) → 0 ≡ least_times d 0
+unfolding least_times
+least_of_none d = sym (lowest_none 0 0 (λ c. leb 0 (c * d)) (λ k l u. absurd (omega arith)))
+
 -- the least number of times reaches n, and no lower number does
 pub least_reaches : (d n : ℕ) → 0 < d → n ≤ least_times d n * d
 least_reaches d n some = rw (← least_by_division d n some) (div_ceil_times n d some).0
@@ -45,8 +49,16 @@ lower_fails d n some c u =
     let up = div_ceil_times n d some in
     omega (arith, up.1, mul-le-mul_right {m = suc c} {n = n / d + min 1 (n % d)} d (omega arith), suc-mul c d)
 
-pub least_at_most : (d n : ℕ) → 0 < d → least_times d n ≤ n / d + 1
-least_at_most d n some = omega (arith, least_by_division d n some)
+pub least_by_quotient : (d n : ℕ) → 0 < d → least_times d n ≤ n / d + 1
+least_by_quotient d n some = omega (arith, least_by_division d n some)
+
+-- n times is always enough
+pub least_at_most : (d n : ℕ) → 0 < d → 0 < n → least_times d n ≤ n
+least_at_most d n some more = go (dec_lt n (least_times d n))
+  where
+    go : Dec (n < least_times d n) → least_times d n ≤ n
+    go (yes u) = absurd (omega (arith, lower_fails d n some n u, mul-le-mul_left {m = 1} {n = d} n some, mul-one n))
+    go (no h) = omega arith
 
 -- a number that is at least the divisor goes into it at least once
 pub quotient_some : (n m : ℕ) → 0 < m → m ≤ n → 0 < n / m

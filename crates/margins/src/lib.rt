@@ -141,7 +141,7 @@ pub fn fit(frame: usize, period: usize, cells: usize) -> Result<u16, Refusal>
 }
 
 // The cells of a message.
-#[tactic(auto, unfolding(crate::specs::Margins::cells_answer), using(crate::proofs::Times::least_at_most))]
+#[tactic(auto, unfolding(crate::specs::Margins::cells_answer), using(crate::proofs::Times::least_by_quotient))]
 pub fn cells(bits: usize) -> Result<u16, Refusal>
     ensures { counted_answer result ≡ cells_answer bits }
 {
