@@ -1,13 +1,13 @@
 -- After each entry, the counts are those of the places passed.
-use Rattle.std.proofs.Common.{refl, sym, ◌∙◌, arith}
+use Rattle.std.proofs.Common.{refl, arith}
 use Rattle.std.proofs.lemmas.Grind.{common_steps}
-use lib.ListN.{get_or-replicate, length-set}
+use lib.ListN.{length-set}
 use Rattle.tables.proofs.Counts.{count_none, count_one_more, count_bound}
 use Rattle.tables.proofs.Places.{size_bound}
 use Rattle.tables.proofs.check.Whole.count_entries.Goals as goal
 
 pub loop-entry-init : goal.loop-entry-init
-loop-entry-init c = record { full = refl; counted = λ k u. get_or-replicate 256 k 0 0 u ∙ sym (count_none c.args.self.now.table.now k) }
+loop-entry-init c = record { full = refl; counted = count_none c.args.self.now.table.now }
 
 pub overflow_add-counts : goal.overflow_add-counts
 overflow_add-counts c =
