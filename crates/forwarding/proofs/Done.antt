@@ -6,6 +6,7 @@ use native.Mathlib.Omega.{arith}
 use lib.ListN.{length}
 use Rattle.answers.specs.Limits.{max_flows, max_waiting, Within}
 use Rattle.answers.specs.Numbers.{DONE}
+use Rattle.answers.specs.declared.Answer.{Answer}
 use Rattle.answers.proofs.Lowest.{somewhere_false}
 use Rattle.forwarding.specs.declared.Running.{Running}
 use Rattle.forwarding.specs.Forwarding.{offer_answer, slot_answer, waiting_of, above_counts}
@@ -39,3 +40,8 @@ Refused st c = (answer_of st c).number ≡ DONE → ⊥
 pub step_done : (st : State) (c : Call) → Done st c → step st c ≡ carried_out st c
 unfolding step
 step_done st c e = grind arith
+
+-- a is what the call answered
+pub step_refused : (st : State) (c : Call) {a : Answer} → a ≡ answer_of st c → (a.number ≡ DONE → ⊥) → step st c ≡ st
+unfolding step
+step_refused st c e d = grind (arith, e, d)

@@ -10,13 +10,23 @@ use Rattle.answers.specs.Limits.{Within}
 use Rattle.answers.specs.Sums.{sum, one}
 use Rattle.forwarding.specs.declared.Running.{Running}
 use Rattle.forwarding.specs.Forwarding.{entries_now, waiting_of}
-use Rattle.forwarding.specs.Histories.{State, Call, a_fresh_start, a_slot, step, sent_by, accepted_by, fresh_start_by}
-use Rattle.forwarding.proofs.Done.{Done, offer_done}
+use Rattle.forwarding.specs.Histories.{State, Call, a_fresh_start, a_slot, step, sent_by, accepted_by, slot_by, fresh_start_by}
+use Rattle.forwarding.proofs.Done.{Done, Refused, offer_done}
 use Rattle.forwarding.proofs.Cells.{served-length, served_is, sent_is, added_is}
 
 -- how many outputs have flow k's number at the record's position
 abbrev pub named : ℕ → Running → List ℕ → ℕ
 named k r T = sum r.ports (λ j. one (eqb (entries_now r T j) k))
+
+-- a refused call counts for nothing
+pub record Nothing (k : ℕ) (st : State) (c : Call) : Type 0 where
+  pub none_sent : sent_by k st c ≡ 0
+  pub none_accepted : accepted_by k st c ≡ 0
+  pub no_slot : slot_by st c ≡ 0
+  pub no_start : fresh_start_by st c ≡ 0
+
+pub nothing : (k : ℕ) (st : State) (c : Call) → Refused st c → Nothing k st c
+nothing k st c d = record { none_sent = grind (arith, d); none_accepted = grind (arith, d); no_slot = grind (arith, d); no_start = grind (arith, d) }
 
 pub slot_sends : (k : ℕ) (st : State) (T : List ℕ) (n : ℕ) → Within 1 (length st.waiting) k → Done st (a_slot T n)
     → sent_by k st (a_slot T n) ≡ min (named k st.running T) (waiting_of st.waiting k)

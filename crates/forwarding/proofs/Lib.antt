@@ -1,4 +1,5 @@
 pub mod Done
+pub mod Serving
 pub mod SentBuffer
 pub mod Cells
 pub mod Rotation
