@@ -17,19 +17,20 @@ use Rattle.cycles.specs.Steps.{load_in, AllFit}
 use Rattle.cycles.proofs.Loads.{load_none, load_step, room_on}
 
 -- where there is room, the loads stay numbers of 16 bits, as the windows are
-pub all_fit : (W X : List ℕ) (size set : ℕ) → ((l : ℕ) → get_or W l 0 < 65536) → ((l : ℕ) → get_or X l 0 < 65536)
-    → no_room W (load_in X) size set ≡ false → AllFit size set (length (take (length W) X)) (take (length W) X)
+pub all_fit : (W X : List ℕ) (size set : ℕ) → ((l : ℕ) → get_or W l 0 < 65536) → ((l : ℕ) → load_in X l < 65536)
+    → no_room W (load_in X) size set ≡ false → AllFit size set (length W) X
 all_fit W X size set windows loads e l u = go (in_set set l) refl
   where
-    there : l < length W
-    there = omega (arith, length-take (length W) X)
+    go : (b : Bool) → in_set set l ≡ b → load_in X l + cond b size 0 < 65536
+    go true on = omega (arith, room_on W (load_in X) size set e l u on, windows l)
+    go false on = omega (arith, loads l)
 
-    same : load_in (take (length W) X) l ≡ load_in X l
-    same = get_or-take (length W) X l 0 there
-
-    go : (b : Bool) → in_set set l ≡ b → load_in (take (length W) X) l + cond b size 0 < 65536
-    go true on = omega (arith, same, room_on W (load_in X) size set e l there on, windows l)
-    go false on = omega (arith, same, loads l)
+-- the same of the part of the loads that is lent on
+pub part_fits : (W X : List ℕ) (size set : ℕ) → ((l : ℕ) → get_or W l 0 < 65536) → ((l : ℕ) → get_or X l 0 < 65536)
+    → no_room W (load_in X) size set ≡ false → AllFit size set (length (take (length W) X)) (take (length W) X)
+part_fits W X size set windows loads e l u =
+    let there : l < length W = omega (arith, length-take (length W) X) in
+    rw (get_or-take (length W) X l 0 there) (all_fit W X size set windows loads e l there)
 
 -- only the loads of the links count
 pub no_room_agrees : (W : List ℕ) (f g : ℕ → ℕ) (size set : ℕ) → ((l : ℕ) → l < length W → f l ≡ g l) → no_room W f size set ≡ no_room W g size set

@@ -118,6 +118,19 @@ module _ (w : Network) (R : List ℕ) (i : ℕ) where
           sym (somewhere_test 0 t (λ u. taken_in w R u i) which.0 (omega arith) (omega (arith, which.1)) which.2)
       go false e = sym (nowhere_test 0 t (λ u. taken_in w R u i) (λ u a l. none_before t e u a (omega arith)))
 
+  -- over one cycle more it finds that cycle where it takes the message, since none before did, and else what it found before
+  pub found_through : (t : ℕ) → found 0 (t + 1) (λ u. taken_in w R u i) ≡ cond (taken_in w R t i) (Some t) (found 0 t (λ u. taken_in w R u i))
+  found_through t = found_more t test ∙ go (test t) refl (found 0 t test) refl
+    where
+      test : ℕ → Bool
+      test u = taken_in w R u i
+
+      go : (b : Bool) → test t ≡ b → (o : Option ℕ) → o ≡ found 0 t test → option_or o (then_some b t) ≡ cond b (Some t) o
+      go true e (Some k) p = absurd (not_later k t (omega (arith, (found_some 0 t test k p).high)) (found_some 0 t test k p).there e)
+      go true e None p = refl
+      go false e (Some k) p = refl
+      go false e None p = refl
+
   -- what it finds comes at or after the release
   pub found_released : (t u : ℕ) → Some u ≡ found 0 t (λ x. taken_in w R x i) → release_of R i ≤ u
   found_released t u e = (waited u (found_some 0 t (λ x. taken_in w R x i) u e).there).0

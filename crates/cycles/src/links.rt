@@ -26,16 +26,14 @@ impl Message {
         (self.path >> link) % 2 == 1
     }
 
-    // Puts the message on those of the first links that are in its set.
+    // Puts the message on those of the first links that are in its set. Others get 0, so that no link waits for a branch.
     pub fn add(self, loads: &mut [u16])
         requires few { length loads.old ≤ max_cycle_links }
         requires fits { AllFit self.size self.path (length loads.old) loads.old }
         ensures { (l : ℕ) → l < length loads.old → load_in loads.new l ≡ load_in loads.old l + share self.size self.path l }
     {
         for (link, load) in loads.iter_mut().enumerate() {
-            if self.crosses(link) {
-                *load += self.size;
-            }
+            *load += if self.crosses(link) { self.size } else { 0 };
         }
     }
 }

@@ -23,16 +23,16 @@ pub struct Run<'a> {
 impl Run<'_> {
     // Whether a message is ready in a cycle: it is released by then, and no earlier cycle took it.
     #[tactic(auto, using(crate::proofs::Turns::before_found))]
-    fn is_ready(&self, place: usize, cycle: usize, taken_by: Option<usize>) -> bool
+    fn is_ready(&self, place: usize, cycle: u16, taken_by: Option<u16>) -> bool
         requires there { place < length self.now.releases.now }
         requires known { taken_by ≡ found 0 cycle (λ t. taken_in (of_network self.now.judged.network) self.now.releases.now t place) }
         ensures { result ≡ ready_in (of_network self.now.judged.network) self.now.releases.now cycle place }
     {
-        usize::from(self.releases[place]) <= cycle && taken_by.is_none()
+        self.releases[place] <= cycle && taken_by.is_none()
     }
 
-    // One cycle of the run.
-    fn run_cycle(&self, cycle: usize, taken_by: &mut [Option<usize>; MAX_MESSAGES])
+    // One cycle of the run. What it takes was taken by no cycle before, so that nothing noted is lost.
+    fn run_cycle(&self, cycle: u16, taken_by: &mut [Option<u16>; MAX_MESSAGES])
         requires { TookBefore (of_network self.now.judged.network) self.now.releases.now cycle taken_by.old }
         ensures { TookBefore (of_network self.now.judged.network) self.now.releases.now (cycle + 1) taken_by.new }
     {
@@ -40,16 +40,18 @@ impl Run<'_> {
             .judged
             .take_ready(|place| self.is_ready(place, cycle, taken_by[place]));
         for place in 0..self.releases.len() {
-            taken_by[place] = taken_by[place].or(taken.messages[place].then_some(cycle));
+            if taken.messages[place] {
+                taken_by[place] = Some(cycle);
+            }
         }
     }
 
-    // All cycles of the run: of each message the cycle that took it, if one did.
-    fn all_cycles(&self) -> [Option<usize>; MAX_MESSAGES]
+    // All cycles of the run: of each message the cycle that took it, if one did. A cycle's number fits into 16 bits, as a release does.
+    fn all_cycles(&self) -> [Option<u16>; MAX_MESSAGES]
         ensures { TookBefore (of_network self.now.judged.network) self.now.releases.now self.now.cycles result }
     {
         let mut taken_by = [None; MAX_MESSAGES];
-        for cycle in 0..self.cycles {
+        for cycle in 0..self.cycles as u16 {
             self.run_cycle(cycle, &mut taken_by);
         }
         taken_by
@@ -57,15 +59,15 @@ impl Run<'_> {
 
     // A message's response, as it is stored: the cycles from its release through the one that took it, or a mark.
     #[tactic(auto, using(crate::proofs::Turns::before_found))]
-    fn response(&self, place: usize, taken_by: Option<usize>) -> u16
+    fn response(&self, place: usize, taken_by: Option<u16>) -> u16
         requires there { place < length self.now.releases.now }
         requires known { taken_by ≡ found 0 self.now.cycles (λ t. taken_in (of_network self.now.judged.network) self.now.releases.now t place) }
         ensures { result ≡ response_of (of_network self.now.judged.network) self.now.releases.now self.now.cycles place }
     {
-        let release = usize::from(self.releases[place]);
+        let release = self.releases[place];
         match taken_by {
-            Some(cycle) => (cycle - release + 1) as u16,
-            None if release < self.cycles => crate::STILL_WAITING,
+            Some(cycle) => cycle - release + 1,
+            None if usize::from(release) < self.cycles => crate::STILL_WAITING,
             None => crate::RELEASED_PAST_RUN,
         }
     }

@@ -32,7 +32,7 @@ impl Taken {
 
 impl Judged<'_> {
     // Takes a message if it is ready and there is room for it on all its links: then its size is on them.
-    #[tactic(auto, using(crate::proofs::Messages::all_fit))]
+    #[tactic(auto, using(crate::proofs::Messages::part_fits))]
     fn take(&self, message: Message, ready: bool, loads: &mut Loads) -> bool
         ensures taken { result ≡ (ready && not (no_room self.now.network.windows.now (load_in loads.old) message.size message.path)) }
         ensures loads { (l : ℕ) → l < length self.now.network.windows.now → load_in loads.new l ≡ load_in loads.old l + cond result (share message.size message.path l) 0 }

@@ -1,10 +1,8 @@
 -- What is known of a message after the cycle is what a search over one cycle more finds.
-use Rattle.std.proofs.Common.{rules, sym, ◌∙◌}
-use Rattle.std.specs.Option.{option_or}
-use Rattle.std.specs.Bool.{then_some}
+use Rattle.std.proofs.Common.{Some, cond, rules, sym, ◌∙◌}
 use Rattle.cycles.specs.Lent.{of_network}
-use Rattle.cycles.specs.Run.{ready_in, taken_in}
-use Rattle.cycles.proofs.Turns.{found_more}
+use Rattle.cycles.specs.Run.{ready_in}
+use Rattle.cycles.proofs.Turns.{found_through}
 use Rattle.cycles.proofs.responses.Run.run_cycle.Goals as goal
 
 pub returns : goal.returns
@@ -14,5 +12,5 @@ returns c = λ i u.
     let R = run.releases.now in
     let went = c.take_ready-taken.ensures (ready_in w R c.args.cycle) (λ i b u p. search rules) in
     c.loop-place.invariant.passed i (search rules)
-    ∙ (λ j. option_or (c.requires i u j) (then_some (went.messages_taken i u j) c.args.cycle))
-    ∙ sym (found_more c.args.cycle (λ t. taken_in w R t i))
+    ∙ (λ j. cond (went.messages_taken i u j) (Some c.args.cycle) (c.requires i u j))
+    ∙ sym (found_through w R i c.args.cycle)
