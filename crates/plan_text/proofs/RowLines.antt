@@ -39,16 +39,21 @@ unfolding joined_tail
 entries_from row i u = record { are = ap joined_tail (drop_more row i 0 u) }
 
 -- behind the last entry there is none
-pub no_entries : (row : List ℕ) (i : ℕ) → length row ≤ i → joined_tail (drop i row) ≡ []
+pub none_behind : (row : List ℕ) (i : ℕ) → length row ≤ i → joined_tail (drop i row) ≡ []
 unfolding joined_tail
-no_entries row i u = ap joined_tail (drop_of_length-le row {i = i} u)
+none_behind row i u = ap joined_tail (drop_of_length-le row {i = i} u)
+
+-- of a row without entries nothing is put
+pub no_entries : (row : List ℕ) → length row ≡ 0 → [] ≡ joined row
+no_entries [] e = refl
+no_entries (x ∷ row) e = absurd (omega arith)
 
 -- how long an answer's line is, and a row's
-answer-length : (number : ℕ) (detail : ℤ) → length (answer_line number detail) ≡ 7 + length (digits number) + 1 + length (signed detail) + 1
+pub answer-length : (number : ℕ) (detail : ℤ) → length (answer_line number detail) ≡ 7 + length (digits number) + 1 + length (signed detail) + 1
 answer-length number detail =
     omega (arith, length-append (digits number) (comma ∷ (signed detail ++ line_feed ∷ [])), length-append (signed detail) (line_feed ∷ []))
 
-row_length : (row : List ℕ) → length (out_line row) ≡ 4 + length (joined row) + 1
+pub row_length : (row : List ℕ) → length (out_line row) ≡ 4 + length (joined row) + 1
 row_length row = omega (arith, length-append (joined row) (line_feed ∷ []))
 
 -- how long the lines can be: a number of 32 bits has at most 10 digits, a byte at most 3

@@ -28,6 +28,11 @@ in_words ns = map (λ n. min n max_word) ns
 abbrev pub scanned : List ℕ → Result (List ℕ) Refusal
 scanned text = cond (is_of_form text) (Ok (in_words (numbers_in start text))) (Err (TextNotOfForm (lived start text)))
 
+-- the same of a scan that leaves the numbers in a lent list
+abbrev pub with_numbers : List ℕ → Result (Unit {0}) Refusal → Result (List ℕ) Refusal
+with_numbers ns (Ok u) = Ok ns
+with_numbers ns (Err r) = Err r
+
 -- what reading hands back: its answer, beside frame and ports
 pub record Plan : Type 0 where
   pub answer : Answer

@@ -16,5 +16,8 @@ pub const COMMA: u8 = b',';
 
 pub const MINUS: u8 = b'-';
 
+// The byte of digit 0.
+pub const ZERO_BYTE: usize = 48;
+
 // The largest number of five digits.
 pub const MAX_NUMBER: usize = 99999;

@@ -3,6 +3,7 @@
 
 pub mod keys;
 pub mod lines;
+mod placing;
 pub mod reader;
 pub mod reading;
 pub mod writer;

@@ -3,6 +3,7 @@ ghost use Rattle.plan_text.specs.Plans.{Puts, HasRoom};
 ghost use Rattle.plan_text.specs.Lines.{joined, joined_tail, answer_line, out_line};
 
 use crate::keys::{ANSWER_KEY, COMMA, LINE_FEED, OUT_KEY};
+use crate::placing::tail_at;
 use crate::writer::Writer;
 use answers::Answer;
 
@@ -24,9 +25,7 @@ impl Writer<'_> {
         requires { HasRoom self.old (joined_tail row.now) }
         ensures { Puts self.old (joined_tail row.now) self.new }
     {
-        for &entry in row {
-            self.put_after_comma(u64::from(entry));
-        }
+        self.at = tail_at(self.out, self.at, row);
     }
 
     // Puts the entries of a row between commas.

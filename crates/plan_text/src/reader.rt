@@ -2,7 +2,7 @@
 ghost use Rattle.std.specs.Prelude.{◌≡◌, true};
 ghost use Rattle.plan_text.specs.Reading.{key_of, end_of, next_field, value_of, in_key, may_grow, takes, ends_number, before_field, past, may_end};
 
-use crate::keys::{COMMA, FLOW_KEY, FRAME_KEY, LINE_FEED, MAX_NUMBER, PORTS_KEY};
+use crate::keys::{COMMA, FLOW_KEY, FRAME_KEY, LINE_FEED, MAX_NUMBER, PORTS_KEY, ZERO_BYTE};
 
 // The numbers of a plan text, in the order of their coming; the last three come again with each flow.
 #[derive(Clone, Copy, Debug, PartialEq, Eq)]
@@ -127,7 +127,7 @@ impl Reader {
             };
         }
         if b.is_ascii_digit() {
-            let digit = usize::from(b - b'0');
+            let digit = usize::from(b) - ZERO_BYTE;
             return Reader {
                 number: Some(self.value() * 10 + digit),
                 ..self

@@ -1,7 +1,7 @@
 // Reading a plan text into a lent buffer. Nothing is written there before the whole text is judged.
-ghost use Rattle.std.specs.Prelude.{◌≡◌, ◌≤◌, length};
+ghost use Rattle.std.specs.Prelude.{◌≡◌, ◌≤◌, [], length};
 ghost use Rattle.answers.specs.Limits.{max_text};
-ghost use Rattle.plan_text.specs.Plans.{scanned, handed, taken_plan, taken_into, read_plan, read_into};
+ghost use Rattle.plan_text.specs.Plans.{scanned, with_numbers, handed, taken_plan, taken_into, read_plan, read_into};
 
 use crate::reader::{Field, Reader};
 use answers::{Given, MAX_TEXT, Refusal};
@@ -14,6 +14,14 @@ pub struct Heading {
     pub frame: usize,
     pub ports: usize,
     pub flows: u16,
+}
+
+// How far a text was read: where the reading stands, at which byte, and how many numbers were kept. `read` tells of this the byte alone, in its refusal.
+#[derive(Clone, Copy)]
+pub struct HowFar {
+    pub reader: Reader,
+    pub at: usize,
+    pub count: usize,
 }
 
 // The detail is the flow count.
@@ -78,13 +86,14 @@ impl Numbers {
     }
 }
 
-// Reads the numbers of a text of the form; of another text, tells how far its bytes are those of the form.
+// Reads the numbers of a text of the form into a list that has none yet; of another text, tells how far its bytes are those of the form.
+// The list is lent, since it is large and would be copied on its way back.
 #[tactic(auto, using(crate::proofs::Scanning::scanning))]
-fn scan(text: &[u8]) -> Result<Numbers, Refusal>
-    requires { length text.now ≤ max_text }
-    ensures { result ≡ scanned text.now }
+fn scan(text: &[u8], numbers: &mut Numbers) -> Result<(), Refusal>
+    requires short { length text.now ≤ max_text }
+    requires none { numbers.old ≡ [] }
+    ensures { with_numbers numbers.new result ≡ scanned text.now }
 {
-    let mut numbers = Numbers::new();
     let mut reader = Reader::before(Field::Frame);
     for (at, &b) in text.iter().enumerate() {
         if !reader.takes(b) {
@@ -98,7 +107,7 @@ fn scan(text: &[u8]) -> Result<Numbers, Refusal>
     if !reader.may_end() {
         return Err(Refusal::TextNotOfForm(text.len() as u16));
     }
-    Ok(numbers)
+    Ok(())
 }
 
 // Judges the numbers of a text of the form, frame and ports first, and takes them over if nothing is to be refused.
@@ -135,6 +144,7 @@ pub fn read(text: &[u8], list: &mut [u16]) -> Result<Heading, Refusal>
     if MAX_TEXT < text.len() {
         return Err(Refusal::TextTooLong);
     }
-    let numbers = scan(text)?;
+    let mut numbers = Numbers::new();
+    scan(text, &mut numbers)?;
     take_over(numbers.as_slice(), list)
 }

@@ -2,6 +2,7 @@
 ghost use Rattle.std.specs.Prelude.{◌≡◌, ◌∷◌, [], ◌+◌, ◌≤◌, length, take};
 
 use crate::keys::{COMMA, MINUS};
+use crate::placing::number_at;
 
 // A lent buffer into which a line, or a whole text, is put piece by piece; `at` is the place behind the last byte that was put.
 // Room is asked of the caller, so that putting cannot fail, as writing to a `Cursor` can.
@@ -58,10 +59,7 @@ impl<'a> Writer<'a> {
         requires { HasRoom self.old (digits n) }
         ensures { Puts self.old (digits n) self.new }
     {
-        if 10 <= n {
-            self.put_number(n / 10);
-        }
-        self.put_byte(b'0' + (n % 10) as u8);
+        self.at = number_at(self.out, self.at, n);
     }
 
     // Puts a number after a comma.
