@@ -7,7 +7,7 @@ use native.Mathlib.Omega.{arith}
 use borrow.Author.Tests.{eq-eqb, ne_eqb}
 use lib.IntN.{pos}
 use lib.Signed.{mag}
-use lib.ListN.{length, take, drop}
+use lib.ListN.{length, take, drop, replicate}
 use lib.Seq.{take_at}
 use Rattle.std.proofs.Common.{Result, Ok, Err}
 use Rattle.std.specs.Result.{MatchResult, IsOkAnd, IfOk}
@@ -24,6 +24,10 @@ use Rattle.plan_text.specs.Reading.{frame_in, ports_in, list_in}
 use Rattle.plan_text.specs.Plans.{Plan, handed, over, over_if_done, read_answer, read_plan, read_into}
 use Rattle.plan_text.proofs.RoundTrip.{ReadDone, read_done}
 use Rattle.plan.specs.Responding.{list_room, respond_answer, Responded, told}
+
+-- what the reader hands back of a text, lent an empty list of the most flows
+abbrev pub HandedBack : List ℕ → Result Heading Refusal → Type 0
+HandedBack text r = handed r ≡ read_plan text (length (replicate {A = ℕ} list_room 0))
 
 module _ (text buffer : List ℕ) (room : length buffer ≡ list_room) (read : Result Heading Refusal) (e : handed read ≡ read_plan text (length buffer)) where
   answer_is : (handed read).answer ≡ read_answer text list_room
